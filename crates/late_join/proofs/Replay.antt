@@ -1,5 +1,5 @@
 -- A replica with one more entry.
-use Rattle.std.proofs.Common.{◌≡◌, ℕ, ◌+◌, ◌<◌, Bool, true, List, [], ◌∷◌, ◌++◌, length, refl, sym, ap, ◌∙◌, None, ◌||◌, leb, ltb, eqb, append_assoc}
+use Rattle.std.proofs.Common.{◌≡◌, ℕ, ◌<◌, Bool, true, List, [], ◌∷◌, ◌++◌, length, refl, sym, ap, ◌∙◌, None, ◌||◌, leb, ltb, eqb, append_assoc}
 use Rattle.std.specs.Prelude.{is_none}
 use Rattle.std.specs.List.{list_any}
 use Rattle.std.proofs.lemmas.Bool.{and_from, leb-false}
@@ -11,7 +11,6 @@ use Rattle.rules.specs.declared.history.Entry.TheVariants.{Join, Next, Operation
 use Rattle.rules.specs.declared.refusal.Refusal.TheVariants.{RoomFull, RecordFull}
 use Rattle.rules.specs.declared.limits.LimitValues.{LimitValues}
 use Rattle.rules.proofs.Conditions.{not_first}
-use Rattle.rules.specs.Records.{has_ended}
 use Rattle.rules.proofs.Ended.{ended_so}
 use Rattle.rules.proofs.Records.{has_ended-kept}
 use Rattle.late_join.specs.Taking.{has_joined, take_fault, is_entry, may_take, IsTakeable, IsTakeableAfter}

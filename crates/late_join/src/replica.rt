@@ -21,7 +21,7 @@ use crate::fault::{FeedFault, TakeFault};
 use base_types::{NoMemory, OpName};
 use causal::Past;
 use drawing::Drawing;
-use rules::{Entry, Limits, Op, Refusal};
+use rules::{Entry, Limits, Op, Refusal, SharedOp};
 use std::alloc::Global;
 use std::marker::Model;
 use std::sync::Arc;
@@ -247,7 +247,7 @@ impl Replica {
         if let Some(fault) = self.arrival_fault(&op) {
             return Err(fault);
         }
-        let addition = self.drawing.plan(alloc, op)?;
+        let addition = self.drawing.plan(alloc, SharedOp::new(alloc, op)?)?;
         self.drawing.commit(addition);
         Ok(())
     }

@@ -265,6 +265,10 @@ front_is q old front e all long =
     let whole : front ≡ all.0 = all.1 ∙ ap (λ (l : List ℕ). take q l ++ all.0) e ∙ ap (λ (l : List ℕ). l ++ all.0) (take_all q [] (omega arith)) in
     whole ∙ copies (2 ^ 64 - 1) all.0 all.2 ∙ ap (λ n. replicate n (2 ^ 64 - 1)) (sym (ap length whole) ∙ long)
 
+pub filled_is : (q len : ℕ) (old front : List ℕ) → old ≡ [] → len ≡ 0 → front ≡ take q old ++ replicate (q - len) (2 ^ 64 - 1) → front ≡ full_words q
+filled_is q len old front e none filled =
+    filled ∙ ap (λ (l : List ℕ). take q l ++ replicate (q - len) (2 ^ 64 - 1)) e ∙ ap (λ (l : List ℕ). l ++ replicate (q - len) (2 ^ 64 - 1)) (take_all q [] (omega arith)) ∙ (let all : q - len ≡ q = omega (arith, none) in ap (λ n. replicate n (2 ^ 64 - 1)) all)
+
 pub first_whole : (n : ℕ) (w : List ℕ) → n % 64 ≡ 0 → w ≡ full_words (n / 64) → AreFirst n w
 first_whole n w z e = let h = full_length (n / 64) in record {
   full = λ k l. ap (λ (v : List ℕ). get_or v k 0) e ∙ get_or-replicate (n / 64) k (2 ^ 64 - 1) 0 l;

@@ -6,8 +6,8 @@ ghost use Rattle.std.specs.List.Sorted.{IsStrictlyIncreasing};
 ghost use Rattle.places.specs.steps.PlaceSet.{has, is_within, with_place, places, set_of, with_places, IsLowest};
 
 use crate::words::{
-    Words, count_bits, difference, first_places, has_bit, intersects, is_within, join, join_below,
-    list, list_common, lowest_place, set_bit,
+    Words, copy, count_bits, difference, first_places, has_bit, intersects, is_within, join,
+    join_below, list, list_common, lowest_place, set_bit,
 };
 use base_types::NoMemory;
 use std::alloc::Global;
@@ -169,7 +169,7 @@ impl PlaceSet {
     pub fn copy(&self, alloc: Global) -> Result<PlaceSet, NoMemory>
         ensures { IfOk result (λ members. members ≡ self.now) }
     {
-        let words = Words::from_slice(alloc, &self.words)?;
+        let words = copy(alloc, &self.words)?;
         Ok(PlaceSet { words })
     }
 

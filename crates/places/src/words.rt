@@ -9,8 +9,11 @@ use base_types::NoMemory;
 use smallvec::SmallVec;
 use std::alloc::Global;
 
-/// The words of a set. Up to two need no allocation: most objects have no more than 128 changes.
-pub(crate) type Words = SmallVec<u64, 2>;
+/// The number of words that need no allocation: most objects have no more than 128 changes.
+const INLINE_WORDS: usize = 2;
+
+/// The words of a set.
+pub(crate) type Words = SmallVec<u64, INLINE_WORDS>;
 
 /// A word, or 0 past the last one.
 pub(crate) fn word(words: &[u64], at: usize) -> u64
@@ -88,6 +91,18 @@ fn rest_len(first: &[u64], second: &[u64]) -> usize
     len
 }
 
+/// A copy of words. If it needs an allocation, it needs one, of just as many words.
+pub(crate) fn copy(alloc: Global, words: &[u64]) -> Result<Words, NoMemory>
+    ensures { IfOk result (λ copy. copy.items ≡ words.now) }
+{
+    if words.len() <= INLINE_WORDS {
+        return Ok(Words::from_slice(alloc, words)?);
+    }
+    let mut copy = Vec::with_capacity(alloc, words.len())?;
+    copy.extend_from_slice(words)?;
+    Ok(Words::from_vec(copy))
+}
+
 /// The places of the first that the second don't have.
 pub(crate) fn difference(alloc: Global, first: &[u64], second: &[u64]) -> Result<Words, NoMemory>
     ensures others { IfOk result (λ others. places_in others.items
@@ -95,7 +110,7 @@ pub(crate) fn difference(alloc: Global, first: &[u64], second: &[u64]) -> Result
     ensures few { IfOk result (λ others. length others.items ≤ length first.now) }
 {
     let len = rest_len(first, second);
-    let mut others = Words::from_slice(alloc, &first[..len])?;
+    let mut others = copy(alloc, &first[..len])?;
     for at in 0..len.min(second.len()) {
         others[at] ^= others[at] & second[at];
     }
@@ -167,12 +182,37 @@ pub(crate) fn first_places(alloc: Global, len: u32) -> Result<Words, NoMemory>
     ensures first { IfOk result (λ words. places_in words.items ≡ places len) }
     ensures few { IfOk result (λ words. length words.items ≤ 2 ^ 26) }
 {
-    let mut words = Words::with_capacity(alloc, len.div_ceil(64) as usize)?;
+    if len.div_ceil(64) as usize <= INLINE_WORDS {
+        few_first_places(alloc, len)
+    } else {
+        many_first_places(alloc, len)
+    }
+}
+
+/// The words of the first places, if they need no allocation.
+fn few_first_places(alloc: Global, len: u32) -> Result<Words, NoMemory>
+    ensures first { IfOk result (λ words. places_in words.items ≡ places len) }
+    ensures few { IfOk result (λ words. length words.items ≤ 2 ^ 26) }
+{
+    let mut words = Words::new(alloc);
     words.resize((len / 64) as usize, u64::MAX)?;
     if !len.is_multiple_of(64) {
         words.push((1u64 << (len % 64)) - 1)?;
     }
     Ok(words)
+}
+
+/// The words of the first places, in one allocation of just as many words.
+fn many_first_places(alloc: Global, len: u32) -> Result<Words, NoMemory>
+    ensures first { IfOk result (λ words. places_in words.items ≡ places len) }
+    ensures few { IfOk result (λ words. length words.items ≤ 2 ^ 26) }
+{
+    let mut words = Vec::with_capacity(alloc, len.div_ceil(64) as usize)?;
+    words.resize((len / 64) as usize, u64::MAX)?;
+    if !len.is_multiple_of(64) {
+        words.push((1u64 << (len % 64)) - 1)?;
+    }
+    Ok(Words::from_vec(words))
 }
 
 /// The lowest place, if there is one.

@@ -11,14 +11,16 @@ ghost use Rattle.drawing.specs.steps.Additions.{IsReady as CanBeAdded};
 ghost use Rattle.room_core.specs.Room.{with_entry, empty_room};
 ghost use Rattle.room_core.specs.Answers.{join_answer, back_reply, answer, site_answer, has_site, room_after};
 ghost use Rattle.room_core.specs.steps.Plans.{entry_added, IsAdmitted, IsPlanReady, Plans};
+ghost use Rattle.room_core.specs.steps.SiteRequests.{request_for};
 
 mod accepted;
 mod plans;
 
 use crate::planned::Planned;
+use crate::site_request::{Form, SiteRequest};
 use base_types::{NoMemory, OpName};
 use drawing::{Addition, Drawing};
-use rules::{Entry, Limits, Refusal};
+use rules::{Entry, Limits, Refusal, SharedOp};
 use std::alloc::Global;
 use std::marker::Model;
 use std::sync::Arc;
@@ -80,13 +82,17 @@ impl RoomState {
     /// # Errors
     ///
     /// `NoMemory` if an allocation failed. The room stays as it is.
-    pub fn answer(&mut self, alloc: Global, site: u32, request: Request) -> Result<Reply, NoMemory>
-        ensures reply { IfOk result (λ reply. reply ≡ (answer self.old.room site request).0) }
+    pub fn answer(&mut self, alloc: Global, asked: SiteRequest) -> Result<Reply, NoMemory>
+        ensures reply { IfOk result (λ reply.
+            reply ≡ (answer self.old.room asked.site asked.request).0) }
         ensures room { OnOk result
-            (self.new.room ≡ room_after self.old.room (answer self.old.room site request)) }
+            (self.new.room ≡ room_after self.old.room (answer self.old.room asked.site asked.request)) }
         ensures err { OnErr result (self.new.room ≡ self.old.room) }
     {
-        let planned = self.plan(alloc, site, request)?;
+        let planned = match asked.into_form() {
+            Form::Operation(op) => self.plan_stored(alloc, op)?,
+            Form::Other(site, request) => self.plan(alloc, site, Box::into_inner(request))?,
+        };
         Ok(self.commit(planned))
     }
 
@@ -152,6 +158,20 @@ impl RoomState {
             return Ok(Planned::of_reply(outside_refusal(Refusal::NotJoined)));
         }
         self.plan_asked(alloc, site, request)
+    }
+
+    /// Plans the answer to the request for an operation. The room stays as it is.
+    #[tactic(auto, unfolding(crate::specs::Answers::answer))]
+    fn plan_stored(&mut self, alloc: Global, op: SharedOp) -> Result<Planned, NoMemory>
+        ensures { let asked = request_for op
+            in Plans self.old self.new (answer self.old.room asked.site asked.request) result }
+    {
+        // That a vector is in range is part of what stays true of it.
+        let _pairs = op.seen.pairs();
+        if op.name.site() > self.sites() {
+            return Ok(Planned::of_reply(outside_refusal(Refusal::NotJoined)));
+        }
+        self.plan_placed(alloc, op)
     }
 
     /// Plans the answer to a request of a site that has joined. The room stays as it is.

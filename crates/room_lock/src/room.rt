@@ -39,7 +39,7 @@ use crate::shelf::{all_parts, count_away, is_any_away, is_away, put_part, take_p
 use base_types::{NoMemory, RoomName};
 use notes::Notes;
 use openings::{NewOpening, Opening, Register, RoomHistories};
-use room_core::RoomState;
+use room_core::{RoomState, SiteRequest};
 use rules::Entry;
 use shared_history::open;
 use std::alloc::Global;
@@ -265,13 +265,14 @@ impl<P: RoomHistories> Room<P> {
         rt: &impl Wait,
         alloc: Global,
         pass: &mut Pass<P>,
-        request: Request,
+        asked: SiteRequest,
     ) -> Result<Reply, CallFault>
-        requires { pass.old.part.opening ≡ self.old.opening }
+        requires opening { pass.old.part.opening ≡ self.old.opening }
+        requires site { asked.site ≡ pass.old.part.site }
         ensures answer { IfOk result
-            (IsCallOver P.limits self.old.entries pass.old pass.new request) }
+            (IsCallOver P.limits self.old.entries pass.old pass.new asked.request) }
         ensures written { let room = room_of P.limits self.old.entries
-            in let outcome = answer room pass.old.part.site request
+            in let outcome = answer room pass.old.part.site asked.request
             in OnOk result (self.new.entries ≡ (room_after room outcome).entries) }
         // The room's opening, its shelf and its notes are unchanged:
         ensures shelf { self.new.shelf ≡ self.old.shelf }
@@ -286,7 +287,7 @@ impl<P: RoomHistories> Room<P> {
         }
         let part = &mut pass.part;
         let had = len_of(&self.state);
-        let reply = self.state.answer(alloc, part.site, request)?;
+        let reply = self.state.answer(alloc, asked)?;
         let _has = len_of(&self.state);
         let own = entry_behind(&self.state, had);
         self.account.add(rt, own);

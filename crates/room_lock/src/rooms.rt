@@ -36,7 +36,7 @@ use base_types::{NoMemory, RoomName};
 use crossbeam_utils::CachePadded;
 use indexmap::IndexMap;
 use openings::{Opening, RoomHistories};
-use room_core::RoomState;
+use room_core::{RoomState, SiteRequest};
 use rules::Limits;
 use std::alloc::Global;
 use std::marker::Model;
@@ -323,11 +323,13 @@ impl<P: RoomHistories> Rooms<P> {
         ensures other_rooms { ¬ (MayBeOf self.now pass.old.part.opening)
             → result ≡ Err (call_fault.Torn 0) }
     {
+        // Before the lock, so that it is held for a shorter time.
+        let asked = SiteRequest::new(alloc, pass.part().site(), request);
         let Some(mut stage) = self.lock(rt, pass.opening()) else {
             return Err(CallFault::Torn { place: 0 });
         };
         match &mut *stage {
-            Stage::Open(room) => room.call(rt, alloc, pass, request),
+            Stage::Open(room) => room.call(rt, alloc, pass, asked?),
             Stage::Free => unreachable!(),
         }
     }

@@ -17,7 +17,7 @@ use super::Drawing;
 use crate::addition::{Addition, Part};
 use crate::fault::AddFault;
 use base_types::{NoMemory, OpName};
-use rules::{Entry, Op, Refusal, SharedOp};
+use rules::{Entry, Refusal, SharedOp};
 use shape::{PlannedChange, Shape};
 use std::alloc::Global;
 use std::sync::Arc;
@@ -76,7 +76,7 @@ impl Drawing {
     ///   a change it is `NoSuchObject`, `NoSuchVersion`, `Gone`, `ObjectFull`, `TooManyKeys` or
     ///   `TooManyVersions`, in this order.
     /// - `NoMemory` if an allocation failed.
-    pub fn plan(&mut self, alloc: Global, op: Op) -> Result<Addition, AddFault>
+    pub fn plan(&mut self, alloc: Global, op: SharedOp) -> Result<Addition, AddFault>
         requires { IsNext self.old.room op }
         ensures planned { IfOk result (IsPlanFor self.old.room op self.new) }
         ensures allowed { OnOk result (body_refusal self.old.room op ≡ None) }
@@ -91,7 +91,7 @@ impl Drawing {
     }
 
     /// Plans to add a creation that may come next.
-    fn plan_creation(&mut self, alloc: Global, op: Op) -> Result<Addition, AddFault>
+    fn plan_creation(&mut self, alloc: Global, op: SharedOp) -> Result<Addition, AddFault>
         requires next { IsNext self.old.room op }
         requires creation { is_change_body op.body ≡ false }
         ensures planned { IfOk result (IsPlanFor self.old.room op self.new) }
@@ -102,7 +102,6 @@ impl Drawing {
         if self.count_objects() >= self.limits.objects() {
             return Err(AddFault::Refused(Refusal::TooManyObjects));
         }
-        let op = SharedOp::new(alloc, op)?;
         Ok(self.plan_object(alloc, op)?)
     }
 
@@ -125,7 +124,7 @@ impl Drawing {
     }
 
     /// Plans to add a change that may come next.
-    fn plan_change(&mut self, alloc: Global, op: Op) -> Result<Addition, AddFault>
+    fn plan_change(&mut self, alloc: Global, op: SharedOp) -> Result<Addition, AddFault>
         requires next { IsNext self.old.room op }
         requires change { is_change_body op.body ≡ true }
         ensures planned { IfOk result (IsPlanFor self.old.room op self.new) }
@@ -136,7 +135,6 @@ impl Drawing {
         if !op.seen.has(op.object()) {
             return Err(AddFault::Refused(Refusal::NoSuchObject));
         }
-        let op = SharedOp::new(alloc, op)?;
         let (entry, shared) = (op.entry()?, op.share()?);
         self.reserve_operation(op.name.site())?;
         let (place, planned) = self.plan_at_object(alloc, shared)?;

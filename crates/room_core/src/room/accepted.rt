@@ -9,7 +9,7 @@ ghost use Rattle.room_core.specs.steps.Plans.{admitted, entry_added, refusal_in,
 use super::RoomState;
 use crate::planned::Planned;
 use base_types::NoMemory;
-use rules::{Entry, Limits, Op, Refusal};
+use rules::{Entry, Limits, Op, Refusal, SharedOp};
 use std::alloc::Global;
 
 impl RoomState {
@@ -61,7 +61,7 @@ impl RoomState {
         if !self.is_placed(op) {
             return Ok(false);
         }
-        let copied = op.copy(alloc)?;
+        let copied = SharedOp::new(alloc, op.copy(alloc)?)?;
         let planned = self.plan_placed(alloc, copied)?;
         Ok(self.carry_out(planned))
     }

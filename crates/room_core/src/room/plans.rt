@@ -16,7 +16,7 @@ use super::RoomState;
 use crate::planned::Planned;
 use base_types::{NoMemory, OpName, StateVector};
 use drawing::{AddFault, Addition};
-use rules::{Body, Op, Refusal};
+use rules::{Body, Op, Refusal, SharedOp};
 use std::alloc::Global;
 use wire::{IdList, Reply};
 
@@ -89,17 +89,31 @@ impl RoomState {
         };
         // That a vector is in range is part of what stays true of it.
         let _pairs = seen.pairs();
-        self.plan_placed(alloc, Op { name, seen, body })
-    }
-
-    /// Plans the answer to an operation that is placed. The room stays as it is.
-    pub(super) fn plan_placed(&mut self, alloc: Global, op: Op) -> Result<Planned, NoMemory>
-        requires { is_placed self.old.room.entries (Operation op) ≡ true }
-        ensures { Plans self.old self.new (operation_answer self.old.room op) result }
-    {
+        let op = Op { name, seen, body };
         if let Some(refusal) = self.order_refusal(&op) {
             return Ok(self.refuse(refusal));
         }
+        self.plan_in_order(alloc, SharedOp::new(alloc, op)?)
+    }
+
+    /// Plans the answer to an operation that is placed. The room stays as it is.
+    pub(super) fn plan_placed(&mut self, alloc: Global, op: SharedOp) -> Result<Planned, NoMemory>
+        requires { is_placed self.old.room.entries (Operation op) ≡ true }
+        ensures { Plans self.old self.new (operation_answer self.old.room op) result }
+    {
+        match self.order_refusal(&op) {
+            Some(refusal) => Ok(self.refuse(refusal)),
+            None => self.plan_in_order(alloc, op),
+        }
+    }
+
+    /// Plans the answer to an operation that is placed, and may come next whatever it does. The room
+    /// stays as it is.
+    fn plan_in_order(&mut self, alloc: Global, op: SharedOp) -> Result<Planned, NoMemory>
+        requires placed { is_placed self.old.room.entries (Operation op) ≡ true }
+        requires order { order_refusal self.old.room op ≡ None }
+        ensures { Plans self.old self.new (operation_answer self.old.room op) result }
+    {
         let name = op.name;
         match self.drawing.plan(alloc, op) {
             Ok(addition) => Ok(self.answer_added(alloc, name, addition)),

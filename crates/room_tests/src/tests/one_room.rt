@@ -2,7 +2,7 @@
 
 use super::limits_of;
 use base_types::{Kind, StateVector};
-use room_core::RoomState;
+use room_core::{RoomState, SiteRequest};
 use rules::{Attrs, Body, Limits};
 use std::process::Abort;
 use wire::{Reply, Request, write_reply};
@@ -27,7 +27,8 @@ fn answers(
     request: Request,
     expected: &str,
 ) -> bool {
-    let reply = room.answer(rt.alloc(), site, request).expect(rt, "memory");
+    let asked = SiteRequest::new(rt.alloc(), site, request).expect(rt, "memory");
+    let reply = room.answer(rt.alloc(), asked).expect(rt, "memory");
     text(rt, &reply).as_str() == expected
 }
 

@@ -1,5 +1,4 @@
 use Rattle.std.proofs.Common.{◌≡◌, true, sym, ap, ◌∙◌}
-use Rattle.std.specs.Prelude.{is_some}
 use Rattle.rules.specs.declared.history.Op.{Op}
 use Rattle.rules.specs.declared.history.Entry.TheVariants.{Operation}
 use Rattle.rules.specs.Records.{is_placed}
@@ -13,7 +12,7 @@ abbrev adds : (c : goal.After-carry_out) → entry_added c.in_ok-planned.planned
 adds c =
     let room = c.args.self.now.room in
     let placed : is_placed room.entries (Operation c.args.op.now) ≡ true = sym c.is_placed.ensures ∙ c.if-not-is_placed.false in
-    ap (λ (o : Outcome). o.1) c.in_ok-planned.ensures.0.0 ∙ ap (λ (op : Op). (operation_answer room op).1) c.in_ok-copied.ensures ∙ operation_added room c.args.op.now placed
+    ap (λ (o : Outcome). o.1) c.in_ok-planned.ensures.0.0 ∙ ap (λ (op : Op). (operation_answer room op).1) (c.in_ok-copied.ensures ∙ c.in_ok-copy.ensures) ∙ operation_added room c.args.op.now placed
 
 pub returns-clause-accepted : goal.returns-clause-accepted
 returns-clause-accepted c =

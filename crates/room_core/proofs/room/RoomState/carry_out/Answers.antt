@@ -1,4 +1,4 @@
-use Rattle.std.proofs.Common.{◌≡◌, sym, ap, ◌∙◌}
+use Rattle.std.proofs.Common.{sym, ap, ◌∙◌}
 use Rattle.std.specs.Prelude.{is_some}
 use Rattle.room_core.proofs.Accepted.{mapped_some}
 use Rattle.room_core.proofs.room.RoomState.carry_out.Goals as goal

@@ -1,4 +1,4 @@
-use Rattle.std.proofs.Common.{◌≡◌, ◌≤◌, true, false, leb, length, sym, ap, subst, ◌∙◌}
+use Rattle.std.proofs.Common.{◌≡◌, ◌≤◌, false, leb, length, sym, ap, subst, ◌∙◌}
 use Rattle.rules.specs.Records.{has_ended}
 use Rattle.drawing.specs.steps.State.{DrawingState}
 use Rattle.room_core.specs.steps.Plans.{entry_added}

@@ -1,1 +1,2 @@
+pub mod EmptyRooms
 pub mod NameFaults

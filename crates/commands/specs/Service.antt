@@ -1,25 +1,27 @@
 -- The effect of a script.
-use Rattle.std.specs.Prelude.{ℕ, ◌≡◌, ◌⊎◌, List, Option, IsSome}
+use Rattle.std.specs.Prelude.{ℕ, ◌≡◌, ◌⊎◌, List, Option, IsSome, length}
 use Rattle.rules.specs.Limits.{full_limits}
-use Rattle.world.specs.State.{WorldState, new_world}
+use Rattle.wire.specs.Lines.{lines_of}
+use Rattle.world.specs.Rooms.{Rooms, AreEmpty}
 use Rattle.byte_streams.specs.Prefixes.{AppendsPrefix}
-use Rattle.world.specs.Script.{AnswersScript, output_of}
+use Rattle.world.specs.Script.{AnswersScript, lines_out}
 use Rattle.commands.specs.Names.{mistake_in}
 
--- rooms of these names with full limits and empty records
-abbrev pub start : List (List ℕ) → WorldState
-start names = new_world names full_limits
-
--- the script of these bytes is answered from the start, and the text appended to what a writer
--- holds
+-- the script of these bytes is answered in empty rooms of these names with full limits, and the text
+-- appended to what a writer holds
 pub record Serves
     (before after : Option (List ℕ)) (names : List (List ℕ)) (bytes : List ℕ) : Type 0 where
-  pub new : WorldState
-  pub answers : AnswersScript before after (start names) bytes new
+  pub start : Rooms
+  pub end : Rooms
+  pub empty : AreEmpty full_limits (length names) start
+  pub answers : AnswersScript before after names start bytes end
 
 -- a prefix of that text is appended
-abbrev pub ServesPrefix : Option (List ℕ) → Option (List ℕ) → List (List ℕ) → List ℕ → Type 0
-ServesPrefix before after names bytes = AppendsPrefix before after (output_of (start names) bytes)
+pub record ServesPrefix
+    (before after : Option (List ℕ)) (names : List (List ℕ)) (bytes : List ℕ) : Type 0 where
+  pub start : Rooms
+  pub empty : AreEmpty full_limits (length names) start
+  pub appends : AppendsPrefix before after (lines_out names start (lines_of bytes))
 
 -- the possible statuses
 pub record IsStatus (names : List (List ℕ)) (status : ℕ) : Type 0 where

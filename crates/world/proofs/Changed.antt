@@ -17,7 +17,7 @@ use Rattle.world.specs.declared.seats.Seat.{Seat}
 use Rattle.world.specs.declared.seats.Asker.{Asker}
 use Rattle.world.specs.Alone.{Message, Alone, no_site, answer_to, move_of, after_move, after_reply, use_after, noted_by, notes_after_move, alone_answer, alone_after}
 use Rattle.world.specs.Rooms.{Rooms, place_of, named_place, owner_from, owner_of, after_at, rooms_after}
-use Rattle.world.specs.State.{WorldState, Named, names_in, names_of, seat_of, no_room, rooms_in, room_at, is_used, uses_in, use_at, notes_of_rooms, notes_of, site_at, alone_at, rooms_of}
+use Rattle.world.specs.steps.State.{WorldState, Named, names_in, names_of, seat_of, no_room, rooms_in, room_at, is_used, uses_in, use_at, notes_of_rooms, notes_of, site_at, alone_at, rooms_of}
 use Rattle.world.specs.steps.Seated.{SeatsWithin}
 use Rattle.world.specs.steps.Steps.{asker_answer, place_answer, asker_of, seat_in, IsMoved}
 use Rattle.world.proofs.Places.{place_of_within}

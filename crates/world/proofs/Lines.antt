@@ -7,8 +7,9 @@ use Rattle.memchr.specs.Find.{Nowhere, NoneBefore, Passes, is_byte}
 use Rattle.wire.specs.Lines.{lines_of, onto_first}
 use Rattle.wire.specs.steps.OneLine.{IsOneLine}
 use Rattle.world.specs.Alone.{message_of}
-use Rattle.world.specs.State.{WorldState, names_of, rooms_of}
-use Rattle.world.specs.Script.{number_then, message_in, text_for, rooms_for, lines_out, lines_end, output_of, end_of}
+use Rattle.world.specs.steps.State.{WorldState, names_of, rooms_of}
+use Rattle.world.specs.Script.{number_then, message_in, text_for, rooms_for, lines_out, lines_end}
+use Rattle.world.specs.steps.Ends.{output_of, end_of}
 
 pub number_then_more : (value : ℕ) (bytes : List ℕ) (i : ℕ) → i < length bytes
     → number_then value (drop i bytes) ≡ cond (eqb (get_or bytes i 0) 32) (Some (message_of value (drop (i + 1) bytes)))

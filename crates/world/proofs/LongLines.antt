@@ -18,13 +18,14 @@ use Rattle.room_core.specs.Room.{with_entry}
 use Rattle.room_core.specs.Shown.{HasObject}
 use Rattle.world.specs.Alone.{Message, message_of, Alone, answer_to, notes_or_bad, move_of, noted_by, notes_after_move, after_reply, use_after, alone_reply, alone_after}
 use Rattle.world.specs.Rooms.{Rooms, named_place, lone_answer, notes_refusal, owner_from, owner_of, reply_at, after_at, reply_to, rooms_after}
-use Rattle.world.specs.State.{WorldState, names_of, rooms_of}
-use Rattle.world.specs.Script.{message_in, text_for, rooms_for, lines_out, lines_end, output_of}
+use Rattle.world.specs.steps.State.{WorldState, names_of, rooms_of}
+use Rattle.world.specs.Script.{message_in, text_for, rooms_for, lines_out, lines_end}
 use Rattle.world.specs.declared.script.TheConstants.{LINE_LIMIT}
 use Rattle.world.specs.steps.Answered.{kept_part, LineShows, LinesShow}
 use Rattle.world.proofs.Changed.{rooms_same, alone_same}
 use Rattle.world.proofs.Lines.{no_break_parts}
 use Rattle.world.proofs.LineForms.{line_of_message, message_of_line}
+use Rattle.world.specs.steps.Ends.{output_of}
 
 -- ---- what is no request
 

@@ -9,14 +9,15 @@ use Rattle.byte_streams.proofs.Written.{no_front}
 use Rattle.wire.specs.Lines.{lines_of}
 use Rattle.wire.specs.steps.OneLine.{IsOneLine}
 use Rattle.world.specs.Rooms.{Rooms}
-use Rattle.world.specs.State.{WorldState, names_of, rooms_of}
-use Rattle.world.specs.Script.{message_in, text_for, rooms_for, lines_out, lines_end, output_of, end_of}
+use Rattle.world.specs.steps.State.{WorldState, names_of, rooms_of}
+use Rattle.world.specs.Script.{message_in, text_for, rooms_for, lines_out, lines_end}
 use Rattle.world.specs.steps.Endings.{Stops}
 use Rattle.world.specs.declared.script.TheConstants.{LINE_LIMIT}
 use Rattle.world.specs.steps.Answered.{kept_part, line_text, IsHeld, LinesShow, IsPastLine, IsPastEnd, Answered, Adds, AnswersSome, Hands, Wrote, WroteSome}
 use Rattle.world.proofs.LongLines.{lines_cut, out_kept, end_kept, shows_kept, shows_whole}
 use Rattle.wire.proofs.OneLine.{one_line_append}
 use Rattle.world.proofs.Lines.{lines_break, lines_last, end_last, no_break_parts}
+use Rattle.world.specs.steps.Ends.{output_of, end_of}
 
 -- ---- lines one after the other
 

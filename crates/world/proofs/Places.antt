@@ -9,7 +9,7 @@ use Rattle.wire.specs.Notes.{Notes}
 use Rattle.notes.specs.Notes.{notes_at}
 use Rattle.world.specs.Alone.{no_site, use_after, move_of, notes_after_move}
 use Rattle.world.specs.Rooms.{place_of}
-use Rattle.world.specs.State.{Named, names_in, no_room, rooms_in, room_at, is_used, uses_in, use_at, notes_of_rooms, notes_of}
+use Rattle.world.specs.steps.State.{Named, names_in, no_room, rooms_in, room_at, is_used, uses_in, use_at, notes_of_rooms, notes_of}
 use Rattle.world.specs.steps.Steps.{asker_answer, place_answer}
 
 -- one room is replaced by another of its name

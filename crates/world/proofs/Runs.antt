@@ -4,9 +4,9 @@ use Rattle.std.proofs.lemmas.Bool.{eqb-true}
 use Rattle.std.proofs.lemmas.List.{length_push, take_more, map-append}
 use Rattle.wire.specs.Texts.{reply_text}
 use Rattle.world.specs.Alone.{Message, Alone, alone_reply, alone_after, alone_texts, alone_end}
-use Rattle.world.specs.Rooms.{Rooms, owner_of, reply_at, after_at, reply_to, rooms_after, lone_reply, owners, at_room, at_none}
-use Rattle.world.specs.steps.Ends.{texts, rooms_end}
-use Rattle.world.specs.State.{WorldState, names_of, rooms_of}
+use Rattle.world.specs.Rooms.{Rooms, owner_of, reply_at, after_at, reply_to, rooms_after, lone_reply, owners, at_room, at_none, texts}
+use Rattle.world.specs.steps.Ends.{rooms_end}
+use Rattle.world.specs.steps.State.{WorldState, names_of, rooms_of}
 use Rattle.world.specs.Shown.{ShowsGroups, AllShowGroups}
 use Rattle.world.specs.Run.{IsRun}
 use Rattle.world.specs.steps.Runs.{answered_messages, answer_texts, IsStep, AnswersSomeOf}
@@ -113,8 +113,8 @@ all_show_push names rooms (m ∷ all) (t ∷ ts) message text e all_show shows =
 -- ---- a run
 
 pub run_from : (old new : WorldState) (messages : List Message) (ts : List (List ℕ)) → ts ≡ texts (names_of old) (rooms_of old) messages
-    → AllShowGroups (names_of old) (rooms_of old) messages ts → rooms_of new ≡ rooms_end (names_of old) (rooms_of old) messages → names_of new ≡ names_of old → IsRun old messages ts new
-run_from old new messages ts replies shown rooms is_names =
+    → AllShowGroups (names_of old) (rooms_of old) messages ts → rooms_of new ≡ rooms_end (names_of old) (rooms_of old) messages → IsRun (names_of old) (rooms_of old) messages ts (rooms_of new)
+run_from old new messages ts replies shown rooms =
     let names = names_of old in
     let start = rooms_of old in
     record {
@@ -123,7 +123,6 @@ run_from old new messages ts replies shown rooms is_names =
       lone = ap (at_none (owners names start messages)) replies ∙ lone_law names start messages;
       shown = shown;
       after = λ place. ap (λ (r : Rooms). r.alone place) rooms ∙ end_law names place start messages;
-      names = is_names;
     }
 
 -- ---- a run so far
@@ -183,7 +182,8 @@ so_far_refused old mid new all answers message h same =
 pub answers_of : (old : WorldState) (all : List Message) (answers : List (Option (List ℕ))) (new : WorldState) → SoFar old all answers new → AnswersSomeOf old all answers new
 answers_of old all answers new h = record {
   count = h.count;
-  run = run_from old new (answered_messages all answers) (answer_texts answers) h.replies h.shown h.rooms h.names;
+  run = run_from old new (answered_messages all answers) (answer_texts answers) h.replies h.shown h.rooms;
+  names = h.names;
 }
 
 -- the lists of the loop, with one more

@@ -10,7 +10,7 @@ use Rattle.world.specs.declared.seats.Seat.{Seat}
 use Rattle.world.specs.declared.seats.Asker.{Asker}
 use Rattle.wire.specs.declared.reply.Reply.{Reply}
 use Rattle.world.specs.Alone.{move_of, after_move}
-use Rattle.world.specs.State.{WorldState, Named, seat_of}
+use Rattle.world.specs.steps.State.{WorldState, Named, seat_of}
 use Rattle.world.specs.steps.Seated.{SeatsWithin}
 use Rattle.world.specs.steps.Steps.{seat_in, IsMoved, RepliesTo}
 

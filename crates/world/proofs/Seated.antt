@@ -1,5 +1,5 @@
 -- The sites in use are those that sessions are in as, each by one session.
-use Rattle.std.proofs.Common.{◌≡◌, ◌≢◌, ℕ, inl, inr, Bool, true, false, cond, eqb, List, [], ◌∷◌, get_or, zero, suc, Option, Some, None, refl, sym, ap, subst, ◌∙◌}
+use Rattle.std.proofs.Common.{◌≡◌, ◌≢◌, ℕ, inl, inr, Bool, true, false, cond, eqb, List, [], ◌∷◌, get_or, zero, suc, Option, Some, None, refl, sym, ap, subst, ◌∙◌, ◌<◌, arith, length}
 use Rattle.std.proofs.lemmas.Bool.{eq-eqb, eqb-true, eqb-false}
 use Rattle.rules.specs.declared.limits.LimitValues.{LimitValues}
 use Rattle.wire.specs.declared.request.Request.{Request}
@@ -7,13 +7,13 @@ use Rattle.wire.specs.declared.note.NoteRequest.{NoteRequest}
 use Rattle.wire.specs.declared.note.NoteRequest.TheVariants.{Set, Read}
 use Rattle.wire.specs.Notes.{Notes, no_notes, note_of}
 use Rattle.wire_reader.specs.steps.Reads.{request_read, note_request_read}
-use Rattle.room_core.specs.Room.{Room, with_entry}
+use Rattle.room_core.specs.Room.{Room, empty_room, with_entry}
 use Rattle.room_core.specs.Answers.{Outcome, has_site}
-use Rattle.world.specs.Alone.{Alone, Message, after_move, use_after_move, move_of, no_site, noted_by, notes_after_move, alone_answer, alone_after, alone_end}
-use Rattle.world.specs.Rooms.{owners, at_room}
+use Rattle.world.specs.Alone.{Alone, Message, after_move, use_after_move, move_of, no_site, noted_by, notes_after_move, alone_answer, alone_after, alone_end, empty_alone}
+use Rattle.world.specs.Rooms.{AreEmpty, owners, at_room}
 use Rattle.world.specs.steps.Ends.{rooms_end}
-use Rattle.world.specs.State.{uses_in, notes_of_rooms, empty_rooms, alone_at, rooms_of, new_world}
-use Rattle.world.specs.steps.Seated.{IsSeated, empty_alone}
+use Rattle.world.specs.steps.State.{uses_in, names_of, notes_of_rooms, empty_rooms, alone_at, rooms_of, new_world}
+use Rattle.world.specs.steps.Seated.{IsSeated}
 use Rattle.world.proofs.Moves.{Moves, answer_moves, still_joined}
 use Rattle.world.proofs.UsedSites.{nobody_in}
 use Rattle.world.proofs.Runs.{end_law}
@@ -196,3 +196,21 @@ seated_rooms names limits place messages =
     let first = alone_at (new_world names limits) place in
     subst IsSeated (sym (end_law names place start messages))
     (seated_end first (at_room place (owners names start messages) messages) (seated_if_empty first (free_at names limits place) (λ session. refl) (bare_at names limits place)))
+
+-- a new world is empty rooms of its names
+pub names_new : (names : List (List ℕ)) (limits : LimitValues) → names_of (new_world names limits) ≡ names
+names_new [] limits = refl
+names_new (name ∷ names) limits = ap (λ (ns : List (List ℕ)). name ∷ ns) (names_new names limits)
+
+alone_new : (names : List (List ℕ)) (limits : LimitValues) (place : ℕ) → place < length names → alone_at (new_world names limits) place ≡ empty_alone limits
+alone_new [] limits place l = absurd (omega (arith, l))
+alone_new (name ∷ names) limits zero l = λ i. record {
+  room = empty_room limits;
+  site_of = λ session. None;
+  in_use = λ site. nobody_in site i;
+  notes = no_notes;
+}
+alone_new (name ∷ names) limits (suc place) l = alone_new names limits place (omega (arith, l))
+
+pub new_is_empty : (names : List (List ℕ)) (limits : LimitValues) → AreEmpty limits (length names) (rooms_of (new_world names limits))
+new_is_empty names limits = record { inside = λ session. refl; alone = alone_new names limits }

@@ -23,7 +23,7 @@ use Rattle.world.specs.declared.seats.Asker.{Asker}
 use Rattle.world.specs.declared.seats.Seat.{Seat}
 use Rattle.world.specs.Alone.{Message, answer_to, no_site, notes_or_bad, use_after, move_of, noted_by, notes_after_move, alone_answer, alone_after}
 use Rattle.world.specs.Rooms.{Rooms, named_place, lone_answer, notes_refusal, owner_from, owner_of, reply_at, after_at, reply_to, rooms_after}
-use Rattle.world.specs.State.{WorldState, names_of, no_room, rooms_in, room_at, uses_in, use_at, notes_of_rooms, notes_of, seat_of, site_at, alone_at, rooms_of}
+use Rattle.world.specs.steps.State.{WorldState, names_of, no_room, rooms_in, room_at, uses_in, use_at, notes_of_rooms, notes_of, seat_of, site_at, alone_at, rooms_of}
 use Rattle.world.specs.steps.Steps.{place_answer, asker_of, IsTextFor, RepliesTo}
 use Rattle.world.specs.Shown.{OwnerHasObject, ShowsGroups}
 use Rattle.world.specs.steps.Runs.{IsStep}

@@ -4,12 +4,13 @@ use Rattle.std.proofs.KnownBytes.{Appends-trans, Consumes-trans, Consumes-kept}
 use Rattle.std.specs.Io.KnownBytes.{Appends, Consumes, Keeps, IsAtEnd}
 use Rattle.byte_streams.specs.Prefixes.{AppendsPrefix}
 use Rattle.wire.specs.Lines.{lines_of}
-use Rattle.world.specs.State.{WorldState, names_of, rooms_of}
-use Rattle.world.specs.Script.{AnswersScript, output_of, end_of}
+use Rattle.world.specs.steps.State.{WorldState, names_of, rooms_of}
+use Rattle.world.specs.Script.{AnswersScript}
 use Rattle.world.specs.steps.Endings.{Stops}
 use Rattle.world.specs.steps.Answered.{LinesShow, IsPastEnd, Wrote, WroteSome}
 use Rattle.world.proofs.ScriptForms.{script_run}
 use Rattle.world.proofs.Parts.{wrote_then, wrote_more, stops_of, stops_then, stops_front, stops_at_once, output_after, end_after, shown_after}
+use Rattle.world.specs.steps.Ends.{output_of, end_of}
 
 -- of a reader that had r0 and has r now, and a writer that held a and holds b now
 pub record ReadSoFar (r0 r a b : Option (List ℕ)) (old now : WorldState) (line : List ℕ) : Type 0 where
@@ -57,16 +58,16 @@ module _ {r0 r1 a b : Option (List ℕ)} (r2 : Option (List ℕ)) {old mid : Wor
   at_end : (P : List ℕ → Type 0) → P (h.taken ++ []) → IfSome r0 P
   at_end P p = at_last P r0 r2 h.taken (subst (Consumes r0 r2) (append-nil h.taken) (Consumes-trans r0 r1 r2 _ _ h.consumed k)) e p
 
-  pub read_whole : (c : Option (List ℕ)) (new : WorldState) → Appends b c (output_of mid line) → IsPastEnd mid line new → IfSome r0 (λ all. AnswersScript a c old all new)
+  pub read_whole : (c : Option (List ℕ)) (new : WorldState) → Appends b c (output_of mid line) → IsPastEnd mid line new → IfSome r0 (λ all. AnswersScript a c (names_of old) (rooms_of old) all (rooms_of new))
   read_whole c new t past =
       let answered = h.wrote.answered in
       let shown = shown_after answered [] (subst (λ l. LinesShow (names_of mid) (rooms_of mid) (lines_of l)) (sym (append-nil line)) past.shown) in
       let rooms = past.rooms ∙ ap (end_of mid) (sym (append-nil line)) ∙ sym (end_after answered []) in
-      at_end (λ all. AnswersScript a c old all new) (record {
+      at_end (λ all. AnswersScript a c (names_of old) (rooms_of old) all (rooms_of new)) (record {
         text = output_of old (h.taken ++ []);
         adds = subst (Appends a c) (sym (output_after answered [] ∙ ap (λ w. w ++ output_of mid (line ++ [])) (append-nil h.wrote.written) ∙ ap (λ l. h.wrote.written ++ output_of mid l) (append-nil line)))
             (Appends-trans a b c _ _ h.wrote.adds t);
-        run = script_run old new (h.taken ++ []) rooms (past.names ∙ answered.names) shown;
+        run = script_run old new (h.taken ++ []) rooms shown;
       })
 
   pub read_last : (c : Option (List ℕ)) (new : WorldState) → Stops b c mid new line → IfSome r0 (λ all. Stops a c old new all)

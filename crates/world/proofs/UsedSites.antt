@@ -4,7 +4,7 @@ use Rattle.std.proofs.Math.ListN.{replicate}
 use mathlib.Core.Path.{fun_ext}
 use Rattle.std.proofs.lemmas.Bool.{eqb-true, eqb-false}
 use Rattle.std.proofs.lemmas.List.{get_or-set_same, get_or-set_other, get_or_past}
-use Rattle.world.specs.State.{is_used, no_sites}
+use Rattle.world.specs.steps.State.{is_used, no_sites}
 
 none_at : (n site : ℕ) → get_or (replicate n false) site false ≡ false
 none_at zero site = refl

@@ -1,6 +1,7 @@
 -- One room alone, and the sessions in it.
 use Rattle.std.specs.Prelude.{ℕ, ◌==◌, Bool, true, false, List, [], ◌∷◌, Option, Some, None, length}
 use Rattle.std.specs.Prelude.{option_map, if◌then◌else◌}
+use Rattle.rules.specs.declared.limits.LimitValues.{LimitValues}
 use Rattle.rules.specs.declared.refusal.Refusal.TheVariants.{BadMessage, NotJoined}
 use Rattle.wire.specs.declared.request.Request.{Request}
 use Rattle.wire.specs.declared.request.Request.TheVariants.{Join, Back}
@@ -8,10 +9,10 @@ use Rattle.wire.specs.declared.reply.Reply.{Reply}
 use Rattle.wire.specs.declared.note.NoteRequest.{NoteRequest}
 use Rattle.wire.specs.declared.reply.Reply.TheVariants.{Joined, Returned, Left, No}
 use Rattle.wire.specs.declared.reply.Reply.TheVariants.{Notes as NotesOf}
-use Rattle.wire.specs.Notes.{Notes, all_notes, notes_after, with_note}
+use Rattle.wire.specs.Notes.{Notes, all_notes, no_notes, notes_after, with_note}
 use Rattle.wire.specs.Texts.{reply_text}
 use Rattle.wire_reader.specs.steps.Reads.{request_read, note_request_read}
-use Rattle.room_core.specs.Room.{Room, with_entry}
+use Rattle.room_core.specs.Room.{Room, empty_room, with_entry}
 use Rattle.room_core.specs.Answers.{Outcome, reply_alone, join_answer, back_reply, answer}
 
 -- a message: a session's number, and bytes
@@ -58,6 +59,15 @@ answer_to alone (Some site) (Some request) asked = answer alone.room site reques
 -- no site is in use
 abbrev pub no_site : ℕ → Bool
 no_site site = false
+
+-- an empty room, and nobody in it
+abbrev pub empty_alone : LimitValues → Alone
+empty_alone limits = record {
+  room = empty_room limits;
+  site_of = λ session. None;
+  in_use = no_site;
+  notes = no_notes;
+}
 
 -- where a reply puts its session, if it moves it: at a site of the room, or out of it
 abbrev pub move_of : Reply → Option (Option ℕ)

@@ -1,6 +1,5 @@
 pub mod Alone
 pub mod Rooms
-pub mod State
 pub mod Run
 pub mod Script
 pub mod Shown

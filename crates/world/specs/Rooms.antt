@@ -1,5 +1,5 @@
 -- Many rooms, and which room each message is of.
-use Rattle.std.specs.Prelude.{ℕ, Bool, false, ◌==◌, List, [], ◌∷◌, Option, Some, None}
+use Rattle.std.specs.Prelude.{ℕ, ◌≡◌, ◌<◌, Bool, false, ◌==◌, List, [], ◌∷◌, Option, Some, None}
 use Rattle.std.specs.Prelude.{option_and_then, position, bytes_eq, if◌then◌else◌}
 use Rattle.rules.specs.declared.refusal.Refusal.{Refusal}
 use Rattle.rules.specs.declared.refusal.Refusal.TheVariants.{BadMessage, NotJoined, NoSuchRoom}
@@ -7,9 +7,11 @@ use Rattle.wire.specs.declared.request.Request.{Request}
 use Rattle.wire.specs.declared.note.NoteRequest.{NoteRequest}
 use Rattle.wire.specs.declared.reply.Reply.{Reply}
 use Rattle.wire.specs.declared.reply.Reply.TheVariants.{No}
+use Rattle.rules.specs.declared.limits.LimitValues.{LimitValues}
 use Rattle.wire.specs.Entering.{room_to_enter}
+use Rattle.wire.specs.Texts.{reply_text}
 use Rattle.wire_reader.specs.steps.Reads.{request_read, note_request_read}
-use Rattle.world.specs.Alone.{Message, Alone, after_reply, alone_reply, alone_after}
+use Rattle.world.specs.Alone.{Message, Alone, empty_alone, after_reply, alone_reply, alone_after}
 
 -- the place of the first room of this name
 abbrev pub place_of : List (List ℕ) → List ℕ → Option ℕ
@@ -19,6 +21,11 @@ place_of names name = position (λ other. bytes_eq other name) names
 pub record Rooms : Type 0 where
   pub inside : ℕ → Option ℕ
   pub alone : ℕ → Alone
+
+-- nobody is in a room, and so many rooms are empty
+pub record AreEmpty (limits : LimitValues) (count : ℕ) (rooms : Rooms) : Type 0 where
+  pub inside : (session : ℕ) → rooms.inside session ≡ None
+  pub alone : (place : ℕ) → place < count → rooms.alone place ≡ empty_alone limits
 
 -- the room that a request of somebody in no room is of: the one that it asks to be let into
 abbrev pub named_place : List (List ℕ) → Option Request → Option ℕ
@@ -73,8 +80,13 @@ reply_to names rooms message = reply_at rooms message (owner_of names rooms mess
 abbrev pub rooms_after : List (List ℕ) → Rooms → Message → Rooms
 rooms_after names rooms message = after_at rooms message (owner_of names rooms message)
 
--- over a list of messages: the room that each is of, the text of each reply, and the rooms after
--- all
+-- over a list of messages: the text of each reply, and the room that each message is of
+abbrev pub texts : List (List ℕ) → Rooms → List Message → List (List ℕ)
+texts names rooms [] = []
+texts names rooms (message ∷ messages) =
+    reply_text (reply_to names rooms message)
+    ∷ texts names (rooms_after names rooms message) messages
+
 abbrev pub owners : List (List ℕ) → Rooms → List Message → List (Option ℕ)
 owners names rooms [] = []
 owners names rooms (message ∷ messages) =

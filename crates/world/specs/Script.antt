@@ -7,8 +7,7 @@ use Rattle.std.specs.Io.KnownBytes.{Appends}
 use Rattle.wire.specs.Lines.{lines_of}
 use Rattle.wire.specs.Texts.{reply_text}
 use Rattle.world.specs.Alone.{Message, message_of}
-use Rattle.world.specs.Rooms.{Rooms, reply_to, rooms_after}
-use Rattle.world.specs.State.{WorldState, names_of, rooms_of}
+use Rattle.world.specs.Rooms.{Rooms, reply_to, rooms_after, texts}
 use Rattle.world.specs.Run.{IsRun}
 
 -- after some digits, which say this number: further digits, a space, and the message
@@ -42,20 +41,12 @@ lines_out names rooms (line ∷ lines) =
     text_for names rooms (message_in line)
     ++ lines_out names (rooms_for names rooms (message_in line)) lines
 
-abbrev pub output_of : WorldState → List ℕ → List ℕ
-output_of state input = lines_out (names_of state) (rooms_of state) (lines_of input)
-
 abbrev pub lines_end : List (List ℕ) → Rooms → List (List ℕ) → Rooms
 lines_end names rooms [] = rooms
 lines_end names rooms (line ∷ lines) =
     lines_end names (rooms_for names rooms (message_in line)) lines
 
--- the rooms after the lines of these bytes
-abbrev pub end_of : WorldState → List ℕ → Rooms
-end_of state input = lines_end (names_of state) (rooms_of state) (lines_of input)
-
--- the messages among lines, and what goes out for the lines where these are the texts of the
--- replies to them
+-- the messages among lines
 abbrev pub with_message : Option Message → List Message → List Message
 with_message None messages = messages
 with_message (Some message) messages = message ∷ messages
@@ -64,38 +55,21 @@ abbrev pub messages_in : List (List ℕ) → List Message
 messages_in [] = []
 messages_in (line ∷ lines) = with_message (message_in line) (messages_in lines)
 
-abbrev pub line_for : Option Message → List (List ℕ) → List ℕ
-line_for None replies = 63 ∷ 10 ∷ []
-line_for (Some message) [] = []
-line_for (Some message) (reply ∷ replies) = decimal message.session ++ (32 ∷ reply) ++ 10 ∷ []
-
-abbrev pub later_for : Option Message → List (List ℕ) → List (List ℕ)
-later_for None replies = replies
-later_for (Some message) [] = []
-later_for (Some message) (reply ∷ replies) = replies
-
-abbrev pub lines_with : List (List ℕ) → List (List ℕ) → List ℕ
-lines_with [] replies = []
-lines_with (line ∷ lines) replies =
-    line_for (message_in line) replies ++ lines_with lines (later_for (message_in line) replies)
-
--- From the old state a script of these bytes is answered by this text, and the state is then the
--- new one.
-pub record IsScriptRun (old : WorldState) (bytes text : List ℕ) (new : WorldState) : Type 0 where
-  -- there are replies to the messages among the lines
-  pub replies : List (List ℕ)
-  -- the text is a line for each line, with these replies
-  pub lines : text ≡ lines_with (lines_of bytes) replies
-  -- each room's are those of that room alone, and wherever one shows an object its versions are the
-  -- maximal compatible groups
-  pub run : IsRun old (messages_in (lines_of bytes)) replies new
-  -- so text and rooms are computed
-  pub output : text ≡ output_of old bytes
-  pub rooms : rooms_of new ≡ end_of old bytes
+-- In rooms of these names a script of these bytes is answered by this text, and the rooms are then
+-- the new ones.
+pub record IsScriptRun (names : List (List ℕ)) (old : Rooms) (bytes text : List ℕ)
+    (new : Rooms) : Type 0 where
+  -- the text has a line for each line
+  pub output : text ≡ lines_out names old (lines_of bytes)
+  pub rooms : new ≡ lines_end names old (lines_of bytes)
+  -- each room's replies are those of that room alone, and wherever one shows an object its versions
+  -- are the maximal compatible groups
+  pub run : let messages = messages_in (lines_of bytes) in
+      IsRun names old messages (texts names old messages) new
 
 -- such a text is added to what a writer holds
-pub record AnswersScript (before after : Option (List ℕ)) (old : WorldState) (bytes : List ℕ)
-    (new : WorldState) : Type 0 where
+pub record AnswersScript (before after : Option (List ℕ)) (names : List (List ℕ)) (old : Rooms)
+    (bytes : List ℕ) (new : Rooms) : Type 0 where
   pub text : List ℕ
   pub adds : Appends before after text
-  pub run : IsScriptRun old bytes text new
+  pub run : IsScriptRun names old bytes text new

@@ -1,3 +1,4 @@
+pub mod State
 pub mod Steps
 pub mod Endings
 pub mod Answered

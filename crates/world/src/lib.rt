@@ -1,15 +1,15 @@
 //! Many rooms, the sessions in them, and scripts of their messages.
 #![tactic(auto)]
 
-ghost use Rattle.std.specs.Prelude.{◌≡◌, ◌↔◌, ℕ, map, option_map, Some, None, IfOk, OnOk, OnErr, IsErrOf, string_bytes, bytes_eq};
+ghost use Rattle.std.specs.Prelude.{◌≡◌, ◌↔◌, ℕ, length, map, option_map, Some, None, IfOk, OnOk, OnErr, IsErrOf, string_bytes, bytes_eq};
 ghost use Rattle.base_types.specs.Repeats.{first_repeat};
 ghost use Rattle.rules.specs.declared.refusal.Refusal.{Refusal};
 ghost use Rattle.wire_reader.specs.steps.Reads.{request_read, note_request_read};
 ghost use Rattle.wire.specs.declared.reply.Reply.TheVariants.{No};
 ghost use Rattle.wire.specs.Entering.{room_to_enter};
 ghost use Rattle.world.specs.Alone.{Message, message_of};
-ghost use Rattle.world.specs.Rooms.{place_of, lone_refusal, notes_refusal};
-ghost use Rattle.world.specs.State.{WorldState, names_in, names_of, new_world};
+ghost use Rattle.world.specs.Rooms.{place_of, lone_refusal, notes_refusal, AreEmpty};
+ghost use Rattle.world.specs.steps.State.{WorldState, names_in, names_of, new_world, rooms_of};
 ghost use Rattle.world.specs.steps.Steps.{asker_of, IsTextFor};
 ghost use Rattle.world.specs.steps.Runs.{IsStep, AnswersSomeOf};
 
@@ -40,7 +40,7 @@ pub struct World {
 
 impl Model for World {
     ghost use Rattle.std.specs.Prelude.{length};
-    ghost use Rattle.world.specs.State.{WorldState};
+    ghost use Rattle.world.specs.steps.State.{WorldState};
     ghost use Rattle.world.specs.steps.Seated.{SeatsWithin};
 
     ghost Value = { WorldState };
@@ -132,6 +132,9 @@ impl World {
     /// - `NoMemory` if an allocation failed.
     pub fn new(alloc: Global, names: &[RoomName], limits: Limits) -> Result<World, RoomsFault>
         ensures ok { IfOk result (λ world. world ≡ new_world names.now limits) }
+        ensures names { IfOk result (λ world. names_of world ≡ names.now) }
+        ensures empty { IfOk result (λ world.
+            AreEmpty limits (length names.now) (rooms_of world)) }
         ensures apart { OnOk result (first_repeat bytes_eq names.now ≡ None) }
         ensures same_name { (place : ℕ) → IsErrOf result (RoomsFault.SameName place)
             ↔ (first_repeat bytes_eq names.now ≡ Some place) }

@@ -10,7 +10,7 @@ ghost use Rattle.room_core.specs.steps.Plans.{IsPlanReady, Plans, entry_added};
 ghost use Rattle.notes.specs.Notes.{notes_at};
 ghost use Rattle.world.specs.Rooms.{place_of};
 ghost use Rattle.world.specs.Alone.{move_of, notes_after_move, outside_answer, use_after};
-ghost use Rattle.world.specs.State.{Named, names_in, rooms_in, room_at, is_used, uses_in, use_at, notes_of_rooms, notes_of, empty_rooms};
+ghost use Rattle.world.specs.steps.State.{Named, names_in, rooms_in, room_at, is_used, uses_in, use_at, notes_of_rooms, notes_of, empty_rooms};
 ghost use Rattle.world.specs.steps.Steps.{asker_answer, place_answer, IsTextFor, RepliesTo};
 
 use crate::seats::{Asker, Seat, move_of, move_seat};
@@ -36,7 +36,7 @@ pub(crate) struct NamedRoom {
 impl Model for NamedRoom {
     ghost use Rattle.std.specs.List.{AllByRecursion};
     ghost use Rattle.wire.specs.Form.{IsEntry};
-    ghost use Rattle.world.specs.State.{Named};
+    ghost use Rattle.world.specs.steps.State.{Named};
 
     ghost Value = { Named };
 

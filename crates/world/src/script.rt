@@ -5,11 +5,12 @@ ghost use Rattle.std.specs.Fmt.{decimal};
 ghost use Rattle.std.specs.Io.KnownBytes.{Appends, IsAtEnd, Keeps};
 ghost use Rattle.wire.specs.steps.OneLine.{IsOneLine};
 ghost use Rattle.world.specs.Alone.{message_of};
-ghost use Rattle.world.specs.State.{names_of};
+ghost use Rattle.world.specs.steps.State.{names_of, rooms_of};
 ghost use Rattle.byte_streams.specs.Prefixes.{AppendsPrefix};
-ghost use Rattle.world.specs.Script.{message_in, output_of, AnswersScript};
+ghost use Rattle.world.specs.Script.{message_in, AnswersScript};
 ghost use Rattle.world.specs.steps.Endings.{Stops, AnswersRead};
 ghost use Rattle.world.specs.steps.Answered.{kept_part, line_text, IsHeld, IsPastLine, IsPastEnd, Adds, AnswersSome, Hands, Wrote, WroteSome};
+ghost use Rattle.world.specs.steps.Ends.{output_of};
 
 use crate::World;
 use crate::fault::ScriptFault;
@@ -309,7 +310,7 @@ impl World {
     ) -> Result<(), ScriptFault>
         ensures ok { OnOk result (IfSome (R.remaining input.old) (λ bytes.
             AnswersScript (W.contents output.old) (W.contents output.new)
-            self.old bytes self.new)) }
+            (names_of self.old) (rooms_of self.old) bytes (rooms_of self.new))) }
         ensures end { OnOk result (IsAtEnd (R.remaining input.new)) }
         ensures names { names_of self.new ≡ names_of self.old }
         // Where it ends early:

@@ -2,7 +2,7 @@
 
 ghost use Rattle.std.specs.Prelude.{◌≡◌, ℕ, Some, None, IfOk, OnOk, OnErr, option_map};
 ghost use Rattle.world.specs.Alone.{move_of};
-ghost use Rattle.world.specs.State.{seat_of};
+ghost use Rattle.world.specs.steps.State.{seat_of};
 ghost use Rattle.world.specs.steps.Steps.{IsMoved};
 
 use base_types::NoMemory;

@@ -3,7 +3,7 @@
 ghost use Rattle.std.specs.Prelude.{◌≡◌, ◌≤◌, ◌==◌, ℕ, IfOk, Some, false, true, if◌then◌else◌};
 ghost use Rattle.base_types.specs.declared.op_name.TheConstants.{MAX_SITE};
 ghost use Rattle.world.specs.Alone.{use_after_move};
-ghost use Rattle.world.specs.State.{is_used, no_sites};
+ghost use Rattle.world.specs.steps.State.{is_used, no_sites};
 
 use base_types::{MAX_SITE, NoMemory};
 use std::alloc::Global;

@@ -8,9 +8,10 @@ use Rattle.wire.specs.Texts.{reply_text}
 use Rattle.world.specs.declared.script.TheConstants.{LINE_LIMIT}
 use Rattle.world.specs.Alone.{Message}
 use Rattle.world.specs.Rooms.{Rooms, reply_to}
-use Rattle.world.specs.State.{WorldState, names_of, rooms_of}
+use Rattle.world.specs.steps.State.{WorldState, names_of, rooms_of}
 use Rattle.world.specs.Shown.{ShowsGroups}
-use Rattle.world.specs.Script.{message_in, text_for, rooms_for, lines_out, lines_end, end_of}
+use Rattle.world.specs.Script.{message_in, text_for, rooms_for, lines_out, lines_end}
+use Rattle.world.specs.steps.Ends.{end_of}
 
 -- as much of a line as is kept
 abbrev pub kept_part : List ℕ → List ℕ

@@ -6,7 +6,7 @@ use Rattle.std.specs.Io.KnownBytes.{Appends, Consumes}
 use Rattle.byte_streams.specs.Prefixes.{AppendsPrefix}
 use Rattle.wire.specs.Lines.{ends_line, lines_of}
 use Rattle.world.specs.Alone.{Message}
-use Rattle.world.specs.State.{WorldState, names_of, rooms_of}
+use Rattle.world.specs.steps.State.{WorldState, names_of, rooms_of}
 use Rattle.world.specs.Script.{lines_out, lines_end}
 
 -- a line is this message: its session's number in digits, a space, and its bytes

@@ -4,7 +4,7 @@ use Rattle.wire.specs.Texts.{reply_text}
 use Rattle.wire_reader.specs.steps.Reads.{reply_read}
 use Rattle.world.specs.Alone.{Message}
 use Rattle.world.specs.Rooms.{reply_to, rooms_after}
-use Rattle.world.specs.State.{WorldState, names_of, rooms_of}
+use Rattle.world.specs.steps.State.{WorldState, names_of, rooms_of}
 use Rattle.world.specs.Shown.{ShowsGroups}
 use Rattle.world.specs.Run.{IsRun}
 
@@ -37,4 +37,6 @@ pub record AnswersSomeOf (old : WorldState) (messages : List Message)
     (answers : List (Option (List ℕ)))
     (new : WorldState) : Type 0 where
   pub count : length answers ≡ length messages
-  pub run : IsRun old (answered_messages messages answers) (answer_texts answers) new
+  pub run : IsRun (names_of old) (rooms_of old) (answered_messages messages answers)
+      (answer_texts answers) (rooms_of new)
+  pub names : names_of new ≡ names_of old

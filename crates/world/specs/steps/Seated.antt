@@ -1,12 +1,9 @@
 -- Who is in a room as which site.
 use Rattle.std.specs.Prelude.{ℕ, ◌≡◌, ◌≢◌, ◌↔◌, true, Some, None, ◌<◌, IfSome, List}
-use Rattle.rules.specs.declared.limits.LimitValues.{LimitValues}
-use Rattle.wire.specs.Notes.{no_notes}
-use Rattle.room_core.specs.Room.{empty_room}
 use Rattle.room_core.specs.Answers.{has_site}
-use Rattle.world.specs.Alone.{Alone, no_site}
+use Rattle.world.specs.Alone.{Alone}
 use Rattle.world.specs.declared.seats.Seat.{Seat}
-use Rattle.world.specs.State.{seat_of}
+use Rattle.world.specs.steps.State.{seat_of}
 
 -- The sites of a room in use are those that sessions are in as, each by one session. No other site
 -- has a note.
@@ -21,15 +18,6 @@ pub record IsSeated (alone : Alone) : Type 0 where
   pub joined : (site : ℕ) → alone.in_use site ≡ true → has_site alone.room site ≡ true
   -- a site with a note is in use
   pub noted : (site : ℕ) → alone.notes site ≢ None → alone.in_use site ≡ true
-
--- an empty room, and nobody in it
-abbrev pub empty_alone : LimitValues → Alone
-empty_alone limits = record {
-  room = empty_room limits;
-  site_of = λ session. None;
-  in_use = no_site;
-  notes = no_notes;
-}
 
 -- each seat is in one of so many rooms
 abbrev pub SeatsWithin : List (ℕ × Seat) → ℕ → Type 0

@@ -10,7 +10,7 @@ use Rattle.world.specs.declared.seats.Seat.{Seat}
 use Rattle.world.specs.declared.seats.Asker.{Asker}
 use Rattle.world.specs.Alone.{after_reply, outside_answer}
 use Rattle.world.specs.Rooms.{named_place}
-use Rattle.world.specs.State.{Named, room_at, use_at, seat_of}
+use Rattle.world.specs.steps.State.{Named, room_at, use_at, seat_of}
 
 -- the answer of a room to a request of a site, or to one of a session that is in no room
 abbrev pub asker_answer : Room → (ℕ → Bool) → Option ℕ → Request → Outcome

@@ -1,9 +1,16 @@
 use Rattle.std.proofs.Common.{◌∙◌, ap, Err, ℕ}
 use Rattle.commands.specs.Names.{texts_of}
 use Rattle.commands.proofs.NameFaults.{repeat_fault}
+use Rattle.commands.proofs.EmptyRooms.{nothing_served, nothing_served_if_err}
 use Rattle.commands.proofs.script.script.Goals as goal
 
 pub returns-in-Err-clause-fault : goal.returns-in-Err-clause-fault
 returns-in-Err-clause-fault g c =
     repeat_fault {T = ℕ} (Err c.fault_of_rooms.result) c.in-Err.fault (texts_of c.args.names.now) c.deref.result.now c.fault_of_rooms.ensures c.in_ok-rooms.ensures.good
     (c.deref.ensures.value ∙ c.in_ok-rooms.ensures.ok) (λ place is. (c.in-Err.ensures.same_name place).0 (ap (λ fault. Err fault) is))
+
+pub returns-in_err-rooms-clause-prefix : goal.returns-in_err-rooms-clause-prefix
+returns-in_err-rooms-clause-prefix g c = nothing_served_if_err c.from_residual.result _ _ _
+
+pub returns-in-Err-clause-prefix : goal.returns-in-Err-clause-prefix
+returns-in-Err-clause-prefix g c = nothing_served _ _ _

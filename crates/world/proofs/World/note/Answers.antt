@@ -1,6 +1,6 @@
 use Rattle.std.proofs.Common.{◌≡◌, ◌<◌, length, Some, sym, refl, ap, ◌∙◌}
 use Rattle.std.proofs.lemmas.Result.{IfOk-weaker}
-use Rattle.world.specs.State.{seat_of}
+use Rattle.world.specs.steps.State.{seat_of}
 use Rattle.world.proofs.SeatMaps.{seat_within, state_of}
 use Rattle.world.proofs.StepAnswers.{bad_answer, if_ok_with, inside_note}
 use Rattle.world.proofs.World.note.Goals as goal

@@ -1,7 +1,7 @@
 use Rattle.std.proofs.Common.{◌∙◌, ap}
 use Rattle.std.proofs.lemmas.Result.{on_ok_weaker}
 use Rattle.wire.specs.Notes.{notes_after}
-use Rattle.world.specs.State.{Named}
+use Rattle.world.specs.steps.State.{Named}
 use Rattle.world.proofs.Places.{names_set, notes_of_read, notes_set, same_rooms, same_uses}
 use Rattle.world.proofs.named_room.ask_notes_at.Goals as goal
 

@@ -1,5 +1,5 @@
 use Rattle.std.proofs.Common.{◌≡◌, take}
-use Rattle.world.specs.State.{empty_rooms}
+use Rattle.world.specs.steps.State.{empty_rooms}
 use Rattle.world.proofs.named_room.empty_rooms.Given as goal
 
 abbrev pub invariant-loop-name : goal.invariant-loop-name

@@ -2,7 +2,7 @@ use Rattle.std.proofs.Common.{bytes_eq, rules}
 use Rattle.std.proofs.lemmas.Iterator.{YieldsList-from_slice}
 use Rattle.std.proofs.lemmas.Iterator.Search.{position_from_yields_List}
 use Rattle.world.proofs.Places.{place_of_found}
-use Rattle.world.specs.State.{Named}
+use Rattle.world.specs.steps.State.{Named}
 use Rattle.world.proofs.named_room.place_of.Goals as goal
 
 pub returns : goal.returns

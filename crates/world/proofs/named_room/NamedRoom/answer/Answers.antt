@@ -6,7 +6,7 @@ use Rattle.room_core.specs.steps.Plans.{outcome, entry_added}
 use Rattle.room_core.specs.State.{DrawingState}
 use Rattle.notes.specs.Notes.{notes_at}
 use Rattle.world.specs.Alone.{move_of, notes_after_move, use_after, use_after_move}
-use Rattle.world.specs.State.{is_used}
+use Rattle.world.specs.steps.State.{is_used}
 use Rattle.world.specs.steps.Steps.{RepliesTo}
 use Rattle.world.proofs.AnswerRanges.{InRange, sound_room, answer_in_range, in_range_after, moved_in_range}
 use Rattle.world.proofs.named_room.NamedRoom.answer.Goals as goal

@@ -1,4 +1,4 @@
-use Rattle.world.specs.State.{no_sites}
+use Rattle.world.specs.steps.State.{no_sites}
 use Rattle.world.proofs.sites.SitesInUse.none.Goals as goal
 
 pub returns : goal.returns

@@ -8,11 +8,9 @@ use Rattle.std.specs.Ordering.{nat_cmp, on, then_cmp, eq_of_both}
 abbrev pub Name : Type 0
 Name = ℕ × ℕ
 
--- a site's number
 abbrev pub is_site : ℕ → Bool
 is_site site = nat_le 1 site && nat_le site MAX_SITE
 
--- a number among a site's operations
 abbrev pub is_seq : ℕ → Bool
 is_seq seq = nat_le 1 seq && nat_le seq MAX_SEQ
 
@@ -22,6 +20,5 @@ is_op_name name = is_site name.0 && is_seq name.1
 abbrev pub same_name : Name → Name → Bool
 same_name = eq_of_both (on (λ name. name.0) ◌==◌) (on (λ name. name.1) ◌==◌)
 
--- names are ordered by site, then by number
 abbrev pub name_cmp : Name → Name → Ordering
 name_cmp = then_cmp (on (λ name. name.0) nat_cmp) (on (λ name. name.1) nat_cmp)

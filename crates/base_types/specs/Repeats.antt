@@ -1,4 +1,4 @@
--- The first repeated member of a list.
+-- Repeated members of a list.
 use Rattle.std.specs.Prelude.{ℕ, ◌+◌, Bool, List, [], ◌∷◌, ◌++◌, Option, Some, None, if◌then◌else◌}
 use Rattle.std.specs.List.{list_any}
 

@@ -16,15 +16,13 @@ is_dot byte = byte == 46
 abbrev pub first_name : Bytes → Bytes
 first_name name = before_first is_dot name
 
--- the name is that of a chain's first room
 abbrev pub has_no_dot : Bytes → Bool
 has_no_dot name = length (first_name name) == length name
 
--- one to six decimal digits
 abbrev pub is_short_numeral : Bytes → Bool
 is_short_numeral digits = nat_lt 0 (length digits) && nat_le (length digits) 6 && list_all is_ascii_digit digits
 
--- decimal digits of a number from 2 to 999999, without leading zeros
+-- a number from 2 to 999999, without leading zeros
 unfoldable pub is_successor_number : Bytes → Bool
 is_successor_number digits =
     is_short_numeral digits && not (slice_index digits 0 == 48) && not (bytes_eq digits (49 ∷ []))
@@ -40,7 +38,6 @@ room_name_fault name =
 abbrev pub is_room_name : Bytes → Bool
 is_room_name name = is_none (room_name_fault name)
 
--- the name of a chain's first room: a label of at most 64 bytes
 abbrev pub is_first_name : Bytes → Bool
 is_first_name name = is_label MAX_ROOM_LEN name
 
@@ -58,6 +55,5 @@ successor name =
     if nat_lt (room_number name) MAX_ROOM_NUMBER && nat_le (length (numbered (first_name name) (room_number name + 1))) MAX_ROOM_LEN
     then Some (numbered (first_name name) (room_number name + 1)) else None
 
--- the room is of the chain whose first room has this name
 abbrev pub is_in_chain : Bytes → Bytes → Bool
 is_in_chain first name = bytes_eq (first_name name) first

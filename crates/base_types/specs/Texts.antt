@@ -31,6 +31,5 @@ is_key bytes = is_label 32 bytes
 abbrev pub is_kind : Bytes → Bool
 is_kind bytes = is_label 32 bytes
 
--- at most 256 bytes
 unfoldable pub is_value_text : Bytes → Bool
 is_value_text bytes = nat_le (length bytes) MAX_VALUE_LEN

@@ -5,7 +5,6 @@ use Rattle.std.specs.Ordering.{is_lt}
 use Rattle.base_types.specs.Names.{Name, name_cmp, same_name}
 use Rattle.std.specs.Cmp.Lexicographic.{slice_cmp, pointwise}
 
--- each name comes before the next one
 unfoldable pub names_rise : List Name → Bool
 names_rise [] = true
 names_rise (first ∷ []) = true

@@ -7,21 +7,15 @@ use Rattle.history_check.specs.declared.verdict.Verdict.TheVariants.{BadTranscri
 use Rattle.history_check.specs.Verdicts.{AreTrue, IsVerdict}
 use Rattle.commands.specs.Reports.{Report}
 
--- a text, a number, and LF
 abbrev pub numbered_line : List ℕ → ℕ → List ℕ
 numbered_line words number = words ++ decimal number ++ 10 ∷ []
 
--- the line of a verdict
-abbrev pub verdict_line : Verdict → List ℕ
-verdict_line Holds = codes "holds\n"
-verdict_line (BadRecord number) = numbered_line (codes "bad record line ") number
-verdict_line (BadTranscript number) = numbered_line (codes "bad transcript line ") number
-verdict_line (WrongReply number) = numbered_line (codes "wrong reply line ") number
-
--- the exit status after a verdict
-abbrev pub verdict_status : Verdict → ℕ
-verdict_status Holds = 0
-verdict_status _ = 1
+-- the line and the exit status
+abbrev pub verdict_says : Verdict → List ℕ × ℕ
+verdict_says Holds = (codes "holds\n", 0)
+verdict_says (BadRecord number) = (numbered_line (codes "bad record line ") number, 1)
+verdict_says (BadTranscript number) = (numbered_line (codes "bad transcript line ") number, 1)
+verdict_says (WrongReply number) = (numbered_line (codes "wrong reply line ") number, 1)
 
 -- the verdict on these bytes of a record and of a transcript
 pub record IsRightVerdict (entries transcript : List ℕ) (verdict : Verdict) : Type 0 where
@@ -30,8 +24,4 @@ pub record IsRightVerdict (entries transcript : List ℕ) (verdict : Verdict) : 
 
 -- what `check` writes for the bytes of a record and of a transcript
 abbrev pub check_report : Report (List ℕ × List ℕ) Verdict
-check_report = record {
-  IsRight = λ files. IsRightVerdict files.0 files.1;
-  text = verdict_line;
-  status = verdict_status;
-}
+check_report = record { IsRight = λ files. IsRightVerdict files.0 files.1; says = verdict_says }

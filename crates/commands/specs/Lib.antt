@@ -1,7 +1,6 @@
 pub mod Names
 pub mod steps
 pub mod Service
-pub mod Ends
 pub mod Reports
 pub mod Checks
 pub mod Migrations

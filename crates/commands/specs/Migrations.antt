@@ -7,20 +7,11 @@ use Rattle.history_check.specs.Migration.{IsMigrated}
 use Rattle.commands.specs.Checks.{numbered_line}
 use Rattle.commands.specs.Reports.{Report}
 
--- the record's new text, or the line of its first bad line
-abbrev pub migrated_text : Migrated → List ℕ
-migrated_text (Text text) = string_bytes text
-migrated_text (BadRecord number) = numbered_line (codes "bad record line ") number
-
--- the exit status after a record or other bytes
-abbrev pub migrated_status : Migrated → ℕ
-migrated_status (Text text) = 0
-migrated_status (BadRecord number) = 1
+-- the record's new text or the line of its first bad line, and the exit status
+abbrev pub migrated_says : Migrated → List ℕ × ℕ
+migrated_says (Text text) = (string_bytes text, 0)
+migrated_says (BadRecord number) = (numbered_line (codes "bad record line ") number, 1)
 
 -- what `migrate` writes for the bytes of a record
 abbrev pub migrate_report : Report (List ℕ) Migrated
-migrate_report = record {
-  IsRight = λ entries. IsMigrated (lines_of entries);
-  text = migrated_text;
-  status = migrated_status;
-}
+migrate_report = record { IsRight = λ entries. IsMigrated (lines_of entries); says = migrated_says }

@@ -7,7 +7,6 @@ use Rattle.base_types.specs.Repeats.{first_repeat}
 use Rattle.command_fault.specs.declared.fault.Fault.{Fault}
 use Rattle.command_fault.specs.declared.fault.Fault.TheVariants.{BadRoomName, RoomNamedTwice}
 
--- the bytes of each
 abbrev pub texts_of : List (Bor (List ℕ)) → List (List ℕ)
 texts_of names = map (λ name. name.now) names
 

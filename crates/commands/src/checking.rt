@@ -1,9 +1,9 @@
 //! `grace check RECORD TRANSCRIPT`: checks a room's record and a transcript of it.
 
 ghost use Rattle.std.specs.Prelude.{◌≡◌, IfErr, IfOk, string_bytes};
-ghost use Rattle.commands.specs.Checks.{check_report, verdict_line, verdict_status};
-ghost use Rattle.commands.specs.steps.Statuses.{EndsEarly, IsOfResult};
-ghost use Rattle.commands.specs.Reports.{OfReaders, Reports, Tells, TellsPrefix};
+ghost use Rattle.commands.specs.Checks.{check_report, verdict_says};
+ghost use Rattle.commands.specs.steps.Statuses.{EndsEarly, IsOfResult, Tells, TellsPrefix};
+ghost use Rattle.commands.specs.Reports.{OfReaders, Reports};
 
 use crate::reporting::{end_with, read_whole, write_line};
 use command_fault::Fault;
@@ -13,7 +13,7 @@ use std::io::{Read, Write};
 
 /// The line of a verdict.
 fn verdict_line(alloc: Global, verdict: Verdict) -> Result<String, Fault>
-    ensures ok { IfOk result (λ line. string_bytes line ≡ verdict_line verdict) }
+    ensures ok { IfOk result (λ line. string_bytes line ≡ (verdict_says verdict).0) }
     ensures fault { IfErr result (λ fault. fault ≡ Fault.NoMemory) }
 {
     let line = match verdict {
@@ -27,7 +27,7 @@ fn verdict_line(alloc: Global, verdict: Verdict) -> Result<String, Fault>
 
 /// The exit status after a verdict.
 fn verdict_status(verdict: Verdict) -> u8
-    ensures status { result ≡ verdict_status verdict }
+    ensures status { result ≡ (verdict_says verdict).1 }
     ensures known { IsOfResult result }
 {
     match verdict {

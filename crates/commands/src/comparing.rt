@@ -1,9 +1,9 @@
 //! `grace renewed OLD NEW`: compares what two records draw.
 
 ghost use Rattle.std.specs.Prelude.{◌≡◌, IfErr, IfOk, string_bytes};
-ghost use Rattle.commands.specs.steps.Statuses.{EndsEarly, IsOfResult};
-ghost use Rattle.commands.specs.Renewals.{comparison_line, comparison_status, renewed_report};
-ghost use Rattle.commands.specs.Reports.{OfReaders, Reports, Tells, TellsPrefix};
+ghost use Rattle.commands.specs.steps.Statuses.{EndsEarly, IsOfResult, Tells, TellsPrefix};
+ghost use Rattle.commands.specs.Renewals.{comparison_says, renewed_report};
+ghost use Rattle.commands.specs.Reports.{OfReaders, Reports};
 
 use crate::reporting::{end_with, read_whole, write_line};
 use command_fault::Fault;
@@ -13,7 +13,7 @@ use std::io::{Read, Write};
 
 /// The line of a comparison.
 fn comparison_line(alloc: Global, comparison: Comparison) -> Result<String, Fault>
-    ensures ok { IfOk result (λ line. string_bytes line ≡ comparison_line comparison) }
+    ensures ok { IfOk result (λ line. string_bytes line ≡ (comparison_says comparison).0) }
     ensures fault { IfErr result (λ fault. fault ≡ Fault.NoMemory) }
 {
     let line = match comparison {
@@ -27,7 +27,7 @@ fn comparison_line(alloc: Global, comparison: Comparison) -> Result<String, Faul
 
 /// The exit status after this result.
 fn comparison_status(comparison: Comparison) -> u8
-    ensures status { result ≡ comparison_status comparison }
+    ensures status { result ≡ (comparison_says comparison).1 }
     ensures known { IsOfResult result }
 {
     match comparison {

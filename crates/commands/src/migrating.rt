@@ -1,9 +1,9 @@
 //! `grace migrate RECORD`: rewrites a room's record in the current forms.
 
 ghost use Rattle.std.specs.Prelude.{◌≡◌, IfErr, IfOk, string_bytes};
-ghost use Rattle.commands.specs.steps.Statuses.{EndsEarly, IsOfResult};
-ghost use Rattle.commands.specs.Migrations.{migrate_report, migrated_status, migrated_text};
-ghost use Rattle.commands.specs.Reports.{OfReader, Reports, Tells, TellsPrefix};
+ghost use Rattle.commands.specs.steps.Statuses.{EndsEarly, IsOfResult, Tells, TellsPrefix};
+ghost use Rattle.commands.specs.Migrations.{migrate_report, migrated_says};
+ghost use Rattle.commands.specs.Reports.{OfReader, Reports};
 
 use crate::reporting::{end_with, read_whole, write_line};
 use command_fault::Fault;
@@ -13,7 +13,7 @@ use std::io::{Read, Write};
 
 /// The new text of a record, or the line for its first bad line.
 fn migrated_text(alloc: Global, migrated: Migrated) -> Result<String, Fault>
-    ensures ok { IfOk result (λ text. string_bytes text ≡ migrated_text migrated) }
+    ensures ok { IfOk result (λ text. string_bytes text ≡ (migrated_says migrated).0) }
     ensures fault { IfErr result (λ fault. fault ≡ Fault.NoMemory) }
 {
     let text = match migrated {
@@ -25,7 +25,7 @@ fn migrated_text(alloc: Global, migrated: Migrated) -> Result<String, Fault>
 
 /// The exit status after this result.
 fn migrated_status(migrated: &Migrated) -> u8
-    ensures status { result ≡ migrated_status migrated.now }
+    ensures status { result ≡ (migrated_says migrated.now).1 }
     ensures known { IsOfResult result }
 {
     match migrated {

@@ -1,9 +1,9 @@
 //! `grace renew RECORD`: prints a short record that draws what a room's record draws.
 
 ghost use Rattle.std.specs.Prelude.{◌≡◌, IfErr, IfOk, string_bytes};
-ghost use Rattle.commands.specs.steps.Statuses.{EndsEarly, IsOfResult};
-ghost use Rattle.commands.specs.Renewals.{renew_report, renewed_status, renewed_text};
-ghost use Rattle.commands.specs.Reports.{OfReader, Reports, Tells, TellsPrefix};
+ghost use Rattle.commands.specs.steps.Statuses.{EndsEarly, IsOfResult, Tells, TellsPrefix};
+ghost use Rattle.commands.specs.Renewals.{renew_report, renewed_says};
+ghost use Rattle.commands.specs.Reports.{OfReader, Reports};
 
 use crate::reporting::{end_with, read_whole, write_line};
 use command_fault::Fault;
@@ -13,7 +13,7 @@ use std::io::{Read, Write};
 
 /// The new record, or a line.
 fn renewed_text(alloc: Global, renewed: RenewedText) -> Result<String, Fault>
-    ensures ok { IfOk result (λ text. string_bytes text ≡ renewed_text renewed) }
+    ensures ok { IfOk result (λ text. string_bytes text ≡ (renewed_says renewed).0) }
     ensures fault { IfErr result (λ fault. fault ≡ Fault.NoMemory) }
 {
     let text = match renewed {
@@ -26,7 +26,7 @@ fn renewed_text(alloc: Global, renewed: RenewedText) -> Result<String, Fault>
 
 /// The exit status after this result.
 fn renewed_status(renewed: &RenewedText) -> u8
-    ensures status { result ≡ renewed_status renewed.now }
+    ensures status { result ≡ (renewed_says renewed.now).1 }
     ensures known { IsOfResult result }
 {
     match renewed {

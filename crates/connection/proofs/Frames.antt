@@ -1,8 +1,8 @@
 -- Frames that are written.
-use Rattle.std.proofs.Common.{◌≡◌, ℕ, List, [], ◌++◌, drop, Some, Result, Err, Ok, refl, subst}
-use Rattle.std.specs.Prelude.{option_map}
+use Rattle.std.proofs.Common.{◌≡◌, inl, inr, ◌∙◌, ℕ, List, [], ◌∷◌, ◌++◌, drop, Option, Some, Result, Err, Ok, OnOk, IfErr, refl, ap, subst}
+use Rattle.std.specs.Prelude.{IsErrAnd, IsSomeAnd, option_map}
 use Rattle.websocket.specs.declared.error.Error.{Error}
-use Rattle.websocket.specs.Connection.{Connection, Effect, Sends, send, write_step, check_can_write}
+use Rattle.websocket.specs.Connection.{Connection, Effect, Sends, read_step, send, write_step, check_can_write}
 use Rattle.websocket.specs.Content.{received_content, text}
 use Rattle.websocket.specs.Frame.{after_check, Checked}
 use Rattle.websocket.specs.View.{Leaves, ReadLeaves, Returns}
@@ -11,9 +11,12 @@ use Rattle.websocket.specs.declared.protocol.frame.codec.FrameStatus.{FrameStatu
 use Rattle.websocket.specs.declared.protocol.frame.codec.FrameStatus.TheVariants.{Partial, Complete}
 use Rattle.websocket.specs.declared.protocol.frame.coding.OpCode.TheVariants as Op
 use Rattle.websocket.specs.declared.protocol.frame.coding.Data.TheVariants as Data
-use Rattle.connection.specs.Standing.{Standing}
-use Rattle.connection.specs.Serving.{Does, Takes, queue, queued_reply, sent_text}
-use Rattle.connection.specs.Talks.{Turn, Wait}
+use Rattle.connection.specs.Standing.{QueuedFrame, Standing}
+use Rattle.connection.specs.declared.end.End.{End}
+use Rattle.connection.specs.Serving.{Does, FailsHearing, Takes, data_of, queued_reply, sent_text}
+use Rattle.connection.specs.Receiving.{EndsAt, stopped}
+use Rattle.connection.specs.steps.States.{state_of}
+use Rattle.connection.specs.Talks.{Fault, Turn, Wait}
 
 sent_after : (c c' : Connection) (bs old out : List ℕ) (check : Checked Error)
     → Leaves (after_check check (send c (Op.Data Data.Text) bs)) c' old out
@@ -43,7 +46,7 @@ module _ {S D : Type 0} (turn : Turn S D) (waits : Wait S) where
       → Returns r new (Complete step) → ReadLeaves r protocol reached [] reply → drop step.consumed new ≡ drop step.consumed old
       → Takes turn waits (option_map (received_content new) step.message) reached.role before mid
       → (p : ℕ × Effect) × (r ≡ Ok (Complete p)) × (reached ≡ p.1.next) × (drop step.consumed new ≡ drop p.0 old)
-      × Does turn waits p.1 before (queue mid (queued_reply reply))
+      × Does turn waits p.1 before (record mid { waiting = mid.waiting ++ queued_reply reply })
   does r protocol reached old new step reply before mid returns leaves keeps takes =
       let facts = frame_facts r new step protocol reached reply returns leaves in (
         facts.0,
@@ -52,3 +55,20 @@ module _ {S D : Type 0} (turn : Turn S D) (waits : Wait S) where
         rw (← facts.2) keeps,
         (mid, rw (← facts.4, ← facts.3) takes, reply, rw (← facts.4) facts.5, refl),
       )
+
+  -- the message of a frame that was read fails
+  pub fails_at : {X : Type 0} (result : Result X End) (fails : Fault S) (protocol reached reached' : Connection) (old new : List ℕ) (step : Step) (reply : List ℕ) (why : End) (before after : Standing S D)
+      → Returns (read_step protocol old) new (Complete step) → ReadLeaves (read_step protocol old) protocol reached [] reply → reached' ≡ reached
+      → IsSomeAnd (data_of (option_map (received_content new) step.message)) (λ bytes. FailsHearing turn fails reached bytes why before after)
+      → IsErrAnd result (λ e. e ≡ why) → IfErr result (λ e. EndsAt turn waits fails (state_of protocol old before) e (stopped (state_of reached' new after) e))
+  fails_at (Ok x) fails protocol reached reached' old new step reply why before after returns leaves same failed is = absurd is
+  fails_at (Err e) fails protocol reached reached' old new step reply why before after returns leaves same failed is =
+      let facts = frame_facts (read_step protocol old) new step protocol reached reply returns leaves in
+      inr (facts.0, facts.1, ap (λ c. record (stopped (state_of protocol old after) e) { protocol = c }) (same ∙ facts.4), inl (rw (← facts.4, ← facts.3, is) failed))
+
+-- a frame that waits behind the others
+pub queued : {S D X E : Type 0} (r : Result X E) (P : List ℕ → Type 0) (reported : Option D) (a b : Standing S D) (waiting : List (QueuedFrame D)) → a ≡ b
+    → OnOk r ((frame : List ℕ) × P frame × (waiting ≡ a.waiting ++ record { bytes = frame; reported = reported } ∷ []))
+    → OnOk r ((frame : List ℕ) × P frame × (record a { waiting = waiting } ≡ record b { waiting = b.waiting ++ record { bytes = frame; reported = reported } ∷ [] }))
+queued (Err e) P reported a b waiting same h = tt
+queued (Ok x) P reported a b waiting same h = (h.0, h.1, rw (← same, h.2) refl)

@@ -1,18 +1,20 @@
 -- Messages that are answered or held, and those at which a connection ends.
-use Rattle.std.proofs.Common.{◌≡◌, ◌≤◌, ◌⊎◌, inl, inr, ℕ, List, [], ◌∷◌, length, Option, Some, None, Result, Ok, Err, true, false, OnOk, OnErr, IfErr, refl}
-use Rattle.websocket.specs.Connection.{Connection, Sends}
+use Rattle.std.proofs.Common.{◌≡◌, ◌≤◌, ◌⊎◌, inl, inr, ℕ, List, [], ◌∷◌, ◌++◌, length, Option, Some, None, Result, Ok, Err, true, false, OnOk, OnErr, IfErr, refl}
+use Rattle.std.specs.Prelude.{IsSomeAnd}
+use Rattle.websocket.specs.Connection.{Connection, Sends, write_step}
+use Rattle.websocket.specs.Content.{text}
 use Rattle.websocket.specs.declared.protocol.config.Role.{Role}
 use Rattle.connection.specs.declared.end.End.{End}
 use Rattle.connection.specs.declared.end.End.TheVariants as end
 use Rattle.connection.specs.declared.talk.TheConstants.{MAX_HELD_LEN}
 use Rattle.connection.specs.Standing.{Standing}
-use Rattle.connection.specs.Serving.{CannotSend, FailsHearing, Freed, Heard, StaysHeld, queue, sent_text}
+use Rattle.connection.specs.Serving.{FailsHearing, FailsStep, Freed, Heard, sent_text}
 use Rattle.connection.specs.Talks.{Fault, Turn, Wait}
 
 module _ {S D : Type 0} (turn : Turn S D) (waits : Wait S) (fails : Fault S) where
   -- without leave nothing stays held
   freed : (role : Role) (held : Option (List ℕ)) (before mid : Standing S D)
-      → (Freed turn role held before mid ⊎ ((false ≡ true) × StaysHeld waits held before mid)) → Freed turn role held before mid
+      → (Freed turn role held before mid ⊎ ((false ≡ true) × IsSomeAnd held (waits before.session) × (mid ≡ before))) → Freed turn role held before mid
   freed role held before mid (inl f) = f
   freed role held before mid (inr k) = absurd (cc k.0)
 
@@ -22,9 +24,9 @@ module _ {S D : Type 0} (turn : Turn S D) (waits : Wait S) (fails : Fault S) whe
 
   -- the answer of a message is sent
   pub heard : {X E : Type 0} (r : Result X E) (protocol protocol' : Connection) (message words : List ℕ) (reported : Option D) (before mid opened after : Standing S D) (session : S)
-      → (Freed turn protocol.role before.held before mid ⊎ ((false ≡ true) × StaysHeld waits before.held before mid))
+      → (Freed turn protocol.role before.held before mid ⊎ ((false ≡ true) × IsSomeAnd before.held (waits before.session) × (mid ≡ before)))
       → opened ≡ mid → protocol' ≡ protocol → turn opened.session session message words reported
-      → OnOk r ((frame : List ℕ) × Sends protocol'.role (Some (sent_text words)) [] frame × (after ≡ queue (record opened { session = session }) (record { bytes = frame; reported = reported } ∷ [])))
+      → OnOk r ((frame : List ℕ) × Sends protocol'.role (Some (sent_text words)) [] frame × (after ≡ record opened { session = session; waiting = opened.waiting ++ record { bytes = frame; reported = reported } ∷ [] }))
       → OnOk r (Heard turn waits protocol.role message before after)
   heard (Err e) protocol protocol' message words reported before mid opened after session f same kept t sent = tt
   heard (Ok x) protocol protocol' message words reported before mid opened after session f same kept t sent = (
@@ -35,9 +37,9 @@ module _ {S D : Type 0} (turn : Turn S D) (waits : Wait S) (fails : Fault S) whe
 
   -- the answer of a message cannot be sent
   pub unsent : {X : Type 0} (r : Result X End) (protocol protocol' : Connection) (message words : List ℕ) (reported : Option D) (before mid opened after : Standing S D) (session : S)
-      → (Freed turn protocol.role before.held before mid ⊎ ((false ≡ true) × StaysHeld waits before.held before mid))
+      → (Freed turn protocol.role before.held before mid ⊎ ((false ≡ true) × IsSomeAnd before.held (waits before.session) × (mid ≡ before)))
       → opened ≡ mid → protocol' ≡ protocol → turn opened.session session message words reported
-      → OnErr r (after ≡ record opened { session = session }) → IfErr r (CannotSend protocol' words)
+      → OnErr r (after ≡ record opened { session = session }) → IfErr r (FailsStep (write_step protocol' (text words)))
       → IfErr r (λ why. FailsHearing turn fails protocol message why before after)
   unsent (Ok x) protocol protocol' message words reported before mid opened after session f same kept t stays why = tt
   unsent (Err e) protocol protocol' message words reported before mid opened after session f same kept t stays why =
@@ -50,7 +52,7 @@ module _ {S D : Type 0} (turn : Turn S D) (waits : Wait S) (fails : Fault S) whe
 
   -- a message is held
   pub held : {X E : Type 0} (r : Result X E) (protocol : Connection) (message : List ℕ) (before mid opened after : Standing S D) (session : S)
-      → (Freed turn protocol.role before.held before mid ⊎ ((false ≡ true) × StaysHeld waits before.held before mid))
+      → (Freed turn protocol.role before.held before mid ⊎ ((false ≡ true) × IsSomeAnd before.held (waits before.session) × (mid ≡ before)))
       → opened ≡ mid → session ≡ opened.session → waits opened.session message → length message ≤ MAX_HELD_LEN
       → OnOk r (after ≡ record opened { session = session; held = Some message })
       → OnOk r (Heard turn waits protocol.role message before after)
@@ -60,7 +62,7 @@ module _ {S D : Type 0} (turn : Turn S D) (waits : Wait S) (fails : Fault S) whe
 
   -- there is no memory to hold a message
   pub unheld_for_memory : {X : Type 0} (r : Result X End) (protocol : Connection) (message : List ℕ) (before mid opened after : Standing S D) (session : S)
-      → (Freed turn protocol.role before.held before mid ⊎ ((false ≡ true) × StaysHeld waits before.held before mid))
+      → (Freed turn protocol.role before.held before mid ⊎ ((false ≡ true) × IsSomeAnd before.held (waits before.session) × (mid ≡ before)))
       → opened ≡ mid → session ≡ opened.session
       → OnErr r (after ≡ record opened { session = session }) → IfErr r (λ why. why ≡ end.NoMemory)
       → IfErr r (λ why. FailsHearing turn fails protocol message why before after)
@@ -75,7 +77,7 @@ module _ {S D : Type 0} (turn : Turn S D) (waits : Wait S) (fails : Fault S) whe
 
   -- the talk fails at a message
   pub failed : (why : End) (protocol : Connection) (message : List ℕ) (before mid opened : Standing S D) (session : S)
-      → (Freed turn protocol.role before.held before mid ⊎ ((false ≡ true) × StaysHeld waits before.held before mid))
+      → (Freed turn protocol.role before.held before mid ⊎ ((false ≡ true) × IsSomeAnd before.held (waits before.session) × (mid ≡ before)))
       → opened ≡ mid → fails opened.session session message why
       → FailsHearing turn fails protocol message why before (record opened { session = session })
   failed why protocol message before mid opened session f same fault =

@@ -1,5 +1,6 @@
 -- Frames whose bytes stand in one list.
 use Rattle.std.proofs.Common.{◌≡◌, ◌≤◌, ◌+◌, ◌-◌, ℕ, suc, List, [], ◌∷◌, ◌++◌, drop, length, Option, None, refl, ap, ap₂, ◌∙◌, arith, length-append, length-drop}
+use Rattle.std.specs.Prelude.{flat_map, take}
 use Rattle.std.proofs.lemmas.List.{drop-append-le, length-take-le, take-append-le}
 use Rattle.std.proofs.Math.Seq.{take-length}
 use Rattle.connection.specs.declared.item.Item.{Item}
@@ -18,7 +19,7 @@ module _ {D : Type 0} where
       let left = length-drop item.len bytes in
       let more = len_in rest (drop item.len bytes) (omega (arith, e, left)) in
       let first = length-take-le item.len bytes (omega (arith, e)) in
-      omega (arith, e, left, more, first)
+      omega (arith, e, left, more, first, length-append (take item.len bytes) (flat_map (λ (frame : QueuedFrame D). frame.bytes) (frames_in rest (drop item.len bytes))))
 
   pub total_more : (items : List (Item D)) (item : Item D) → total_len (items ++ item ∷ []) ≡ total_len items + item.len
   total_more [] item = omega arith

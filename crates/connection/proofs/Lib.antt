@@ -6,3 +6,4 @@ pub mod Pieces
 pub mod Orders
 pub mod Blocks
 pub mod InList
+pub mod Calls

@@ -1,14 +1,15 @@
 -- Messages are answered once, and in order.
-use Rattle.std.proofs.Common.{◌≡◌, ◌⊎◌, inl, inr, ℕ, List, [], ◌∷◌, ◌++◌, map, Option, Some, None, refl, sym, ap, subst, ◌∙◌, append_assoc, append-nil}
+use Rattle.std.proofs.Common.{◌≡◌, ◌≤◌, ◌⊎◌, inl, inr, ℕ, suc, arith, List, [], ◌∷◌, ◌++◌, drop, length, map, Option, Some, None, refl, sym, ap, subst, ◌∙◌, append_assoc, append-nil}
 use Rattle.std.specs.Prelude.{IfSome, IsFalse, option_to_list}
 use Rattle.websocket.specs.Connection.{Effect}
 use Rattle.websocket.specs.Content.{Content, text, binary, ping, pong, close, is_close}
 use Rattle.websocket.specs.declared.protocol.config.Role.{Role}
 use Rattle.connection.specs.Standing.{ConnectionState, QueuedFrame, Standing}
-use Rattle.connection.specs.Serving.{Answered, Does, Freed, Heard, Holds, Takes, queue, queued_reply}
+use Rattle.connection.specs.Serving.{Answered, Does, Freed, Heard, Takes, data_of, queued_reply}
 use Rattle.connection.specs.Receiving.{Run, Served}
 use Rattle.connection.specs.Connections.{Receives}
-use Rattle.connection.specs.Histories.{AnsweredInOrder, Carries, Exchange, HasNoClose, Turns, data_of, messages}
+use Rattle.connection.specs.Histories.{AnsweredInOrder, Carries, Exchange, HasNoClose, Turns, messages}
+use Rattle.connection.specs.declared.talk.TheConstants.{MAX_HELD_LEN}
 use Rattle.connection.specs.Talks.{Block, Turn, Wait}
 
 carries_both : {D : Type 0} (f g : List (QueuedFrame D)) (e h : List (Exchange D)) → Carries f e → Carries g h → Carries (f ++ g) (e ++ h)
@@ -59,7 +60,7 @@ module _ {S D : Type 0} (turn : Turn S D) where
         carried = refl;
       }
 
-  replied : (a : Standing S D) (reply : List ℕ) → AnsweredInOrder turn [] a (queue a (queued_reply reply))
+  replied : (a : Standing S D) (reply : List ℕ) → AnsweredInOrder turn [] a (record a { waiting = a.waiting ++ queued_reply reply })
   replied a reply =
       record {
         exchanges = [];
@@ -100,7 +101,7 @@ module _ {S D : Type 0} (turn : Turn S D) (waits : Wait S) where
     h.5,
   )
 
-  held : (message : List ℕ) (a b : Standing S D) → a.held ≡ None → Holds waits message a b → AnsweredInOrder turn (message ∷ []) a b
+  held : (message : List ℕ) (a b : Standing S D) → a.held ≡ None → (waits a.session message × (length message ≤ MAX_HELD_LEN) × (b ≡ record a { held = Some message })) → AnsweredInOrder turn (message ∷ []) a b
   held message a b none h =
       record {
         exchanges = [];
@@ -112,7 +113,7 @@ module _ {S D : Type 0} (turn : Turn S D) (waits : Wait S) where
       }
 
   last : (role : Role) (message : List ℕ) (a b : Standing S D) → a.held ≡ None
-      → (Answered turn role message a b ⊎ Holds waits message a b) → AnsweredInOrder turn (message ∷ []) a b
+      → (Answered turn role message a b ⊎ (waits a.session message × (length message ≤ MAX_HELD_LEN) × (b ≡ record a { held = Some message }))) → AnsweredInOrder turn (message ∷ []) a b
   last role message a b none (inl h) = answered role message a b none h
   last role message a b none (inr h) = held message a b none h
 
@@ -122,7 +123,7 @@ module _ {S D : Type 0} (turn : Turn S D) (waits : Wait S) where
       in_order_both turn [] (message ∷ []) a h.0 b free.0 (last role message h.0 b free.1 h.2)
 
   taken : (content : Option Content) (role : Role) (a b : Standing S D) → IfSome content (λ c. IsFalse (is_close c)) → Takes turn waits content role a b
-      → AnsweredInOrder turn (data_of content) a b
+      → AnsweredInOrder turn (option_to_list (data_of content)) a b
   taken None role a b no_close h = nothing turn a b h
   taken (Some (text bytes)) role a b no_close h = heard role bytes a b h
   taken (Some (binary bytes)) role a b no_close h = heard role bytes a b h
@@ -131,18 +132,23 @@ module _ {S D : Type 0} (turn : Turn S D) (waits : Wait S) where
   taken (Some (close frame)) role a b no_close h = absurd (cc no_close)
 
   done : (effect : Effect) (a b : Standing S D) → IfSome effect.message (λ c. IsFalse (is_close c)) → Does turn waits effect a b
-      → AnsweredInOrder turn (data_of effect.message) a b
+      → AnsweredInOrder turn (option_to_list (data_of effect.message)) a b
   done effect a b no_close h =
+      let came = option_to_list (data_of effect.message) in
       let first = taken effect.message effect.next.role a h.0 no_close h.1 in
-      let then = in_order_both turn (data_of effect.message) [] a h.0 (queue h.0 (queued_reply h.2)) first (replied turn h.0 h.2) in
-      subst (λ x. AnsweredInOrder turn x a b) (append-nil (data_of effect.message)) (subst (λ (x : Standing S D). AnsweredInOrder turn (data_of effect.message ++ []) a x) (sym h.4) then)
+      let then = in_order_both turn came [] a h.0 (record h.0 { waiting = h.0.waiting ++ queued_reply h.2 }) first (replied turn h.0 h.2) in
+      subst (λ x. AnsweredInOrder turn x a b) (append-nil came) (subst (λ (x : Standing S D). AnsweredInOrder turn (came ++ []) a x) (sym h.4) then)
 
 module _ {S D : Type 0} (turn : Turn S D) (waits : Wait S) (blocks : Block S) where
-  in_order : (ps : Run) (a b : Standing S D) → Served turn waits blocks ps a b → HasNoClose ps → AnsweredInOrder turn (messages ps) a b
-  in_order [] a b h no_close = nothing turn a b h
+  in_order : (ps : Run) (a b : ConnectionState S D) → Served turn waits blocks ps a b → HasNoClose ps → AnsweredInOrder turn (messages ps) a.standing b.standing
+  in_order [] a b h no_close = nothing turn a.standing b.standing (ap (λ (x : ConnectionState S D). x.standing) h)
   in_order (p ∷ ps) a b h no_close =
-      in_order_both turn (data_of p.1.message) (messages ps) a h.1 b (done turn waits p.1 a h.1 no_close.0 h.2) (in_order ps h.1 b h.3 no_close.1)
+      let next = record a { protocol = p.1.next; input = drop p.0 a.input; standing = h.2 } in
+      in_order_both turn (option_to_list (data_of p.1.message)) (messages ps) a.standing h.2 b.standing
+      (done turn waits p.1 a.standing h.2 (no_close 0 p (omega arith)) h.3)
+      (in_order ps next b h.4 (λ k d less. no_close (suc k) d (omega (arith, less))))
 
   pub received_in_order : (before after : ConnectionState S D) (bytes : List ℕ) (r : Receives turn waits blocks before bytes after)
-      → HasNoClose r.received.frames → AnsweredInOrder turn (messages r.received.frames) before.standing after.standing
-  received_in_order before after bytes r no_close = in_order r.received.frames before.standing after.standing r.received.served no_close
+      → HasNoClose r.frames → AnsweredInOrder turn (messages r.frames) before.standing after.standing
+  received_in_order before after bytes r no_close =
+      in_order r.frames (record before { input = before.input ++ bytes }) (record after { is_behind = before.is_behind }) r.served no_close

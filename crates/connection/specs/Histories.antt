@@ -1,11 +1,11 @@
 -- What was said over a connection, in order.
-use Rattle.std.specs.Prelude.{◌≡◌, ◌⊎◌, ℕ, List, [], ◌∷◌, ◌++◌, map, Option, Some, None, IfSome, IsFalse}
-use Rattle.std.specs.Prelude.{option_to_list}
+use Rattle.std.specs.Prelude.{◌≡◌, ◌⊎◌, ℕ, List, [], ◌∷◌, ◌++◌, All, map, Option, Some, None, IfSome, IsFalse}
+use Rattle.std.specs.Prelude.{flat_map, option_to_list}
 use Rattle.websocket.specs.Connection.{Sends}
-use Rattle.websocket.specs.Content.{Content, text, binary, ping, pong, close, is_close}
+use Rattle.websocket.specs.Content.{is_close}
 use Rattle.websocket.specs.declared.protocol.config.Role.{Role}
 use Rattle.connection.specs.Standing.{QueuedFrame, Standing}
-use Rattle.connection.specs.Serving.{sent_text}
+use Rattle.connection.specs.Serving.{data_of, sent_text}
 use Rattle.connection.specs.Receiving.{Run}
 use Rattle.connection.specs.Talks.{Turn}
 
@@ -15,35 +15,20 @@ pub record Exchange (D : Type 0) : Type 0 where
   pub words : List ℕ
   pub reported : Option D
 
--- the text or binary message of a frame, if it gave one
-abbrev pub data_of : Option Content → List (List ℕ)
-data_of None = []
-data_of (Some (text bytes)) = bytes ∷ []
-data_of (Some (binary bytes)) = bytes ∷ []
-data_of (Some (ping bytes)) = []
-data_of (Some (pong bytes)) = []
-data_of (Some (close frame)) = []
-
--- the text and the binary messages of a run of frames, in order
 abbrev pub messages : Run → List (List ℕ)
-messages [] = []
-messages (p ∷ ps) = data_of p.1.message ++ messages ps
+messages run = flat_map (λ p. option_to_list (data_of p.1.message)) run
 
--- no frame of the run is a close
 abbrev pub HasNoClose : Run → Type 0
-HasNoClose [] = Unit {0}
-HasNoClose (p ∷ ps) = IfSome p.1.message (λ content. IsFalse (is_close content)) × HasNoClose ps
+HasNoClose run = All (λ p. IfSome p.1.message (λ content. IsFalse (is_close content))) run
 
--- The frames are those of the answers' texts, in order, each with what it reports, and between them
--- replies of the protocol, which report nothing.
+-- the frames are those of the answers, in order, and between them replies of the protocol
 abbrev pub Carries : {D : Type 0} → List (QueuedFrame D) → List (Exchange D) → Type 0
 Carries [] exchanges = exchanges ≡ []
 Carries {D} (frame ∷ frames) exchanges =
     ((frame.reported ≡ None) × Carries frames exchanges)
     ⊎ ((one : Exchange D) × (others : List (Exchange D)) × (exchanges ≡ one ∷ others)
     × ((role : Role) × Sends role (Some (sent_text one.words)) [] frame.bytes)
-    × (frame.reported ≡ one.reported)
-    × Carries frames others)
+    × (frame.reported ≡ one.reported) × Carries frames others)
 
 module _ {S D : Type 0} (turn : Turn S D) where
   -- one turn of the session for each exchange, in order
@@ -52,15 +37,13 @@ module _ {S D : Type 0} (turn : Turn S D) where
   Turns before (one ∷ others) after =
       (mid : S) × turn before mid one.message one.words one.reported × Turns mid others after
 
-  -- The message that was held and those that came are those that were answered, by one turn each and
-  -- in order, and at most one that is held now. The frames of the answers are in this order behind
-  -- those that waited.
+  -- The message that was held and those that came were answered in order, and at most one is held
+  -- now. The frames of the answers are in this order behind those that waited.
   pub record AnsweredInOrder (came : List (List ℕ)) (before after : Standing S D) : Type 0 where
     pub exchanges : List (Exchange D)
     pub frames : List (QueuedFrame D)
     pub turns : Turns before.session exchanges after.session
-    pub order :
-        option_to_list before.held ++ came
+    pub order : option_to_list before.held ++ came
         ≡ map (λ one. one.message) exchanges ++ option_to_list after.held
     pub queued : after.waiting ≡ before.waiting ++ frames
     pub carried : Carries frames exchanges

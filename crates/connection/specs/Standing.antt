@@ -1,9 +1,9 @@
 -- What is known of a connection.
-use Rattle.std.specs.Prelude.{ℕ, ◌+◌, Bool, List, [], ◌∷◌, length, Option}
+use Rattle.std.specs.Prelude.{ℕ, Bool, List, flat_map, length, Option}
 use Rattle.websocket.specs.Connection.{Connection}
 use Rattle.connection.specs.declared.end.End.{End}
 
--- a frame that waits to be sent: its bytes, and what it reports
+-- a frame that waits to be sent, and what it reports
 pub record QueuedFrame (D : Type 0) : Type 0 where
   pub bytes : List ℕ
   pub reported : Option D
@@ -14,13 +14,10 @@ pub record Standing (S D : Type 0) : Type 0 where
   pub held : Option (List ℕ)
   pub waiting : List (QueuedFrame D)
 
--- how many bytes wait
 abbrev pub waiting_len : {D : Type 0} → List (QueuedFrame D) → ℕ
-waiting_len [] = 0
-waiting_len (item ∷ rest) = length item.bytes + waiting_len rest
+waiting_len waiting = length (flat_map (λ item. item.bytes) waiting)
 
--- A connection: the state of the protocol, the bytes that no frame has taken, what stands beside
--- them, why it has ended, if it has, and whether bytes may be left because no frame may be served.
+-- `input` are the bytes that no frame has taken; if it `is_behind`, whole frames may be among them
 pub record ConnectionState (S D : Type 0) : Type 0 where
   pub protocol : Connection
   pub input : List ℕ

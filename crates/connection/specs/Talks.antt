@@ -2,8 +2,7 @@
 use Rattle.std.specs.Prelude.{ℕ, List, Option}
 use Rattle.connection.specs.declared.end.End.{End}
 
--- one message is answered: the session before and after it, its bytes, the bytes of the answer's
--- text, and what the text reports
+-- one message is answered: the session before and after, the message, the text, what that reports
 abbrev pub Turn : Type 0 → Type 0 → Type 1
 Turn S D = S → S → List ℕ → List ℕ → Option D → Type 0
 

@@ -2,18 +2,19 @@
 
 ghost use Rattle.std.specs.Prelude.{ℕ, List, ◌≡◌, ◌≢◌, ◌≤◌, ◌⊎◌, ◌++◌, [], ◌∷◌, IfErr, IfOk, IfSome};
 ghost use Rattle.std.specs.Prelude.{◌↔◌, IsSomeAnd, IsTrue, None, Ok, OnErr, OnOk, Some, drop, false, is_some};
-ghost use Rattle.std.specs.Prelude.{min, option_map, string_bytes, true};
-ghost use Rattle.websocket.specs.Connection.{Effect, Sends, read_step};
-ghost use Rattle.websocket.specs.declared.protocol.frame.codec.FrameStatus.TheVariants.{Complete};
+ghost use Rattle.std.specs.Prelude.{length, min, option_map, string_bytes, true};
+ghost use Rattle.websocket.specs.Connection.{Effect, Sends, read_step, write_step};
+ghost use Rattle.websocket.specs.declared.protocol.frame.codec.FrameStatus.TheVariants.{Complete, Partial};
 ghost use Rattle.websocket.specs.Content.{HasValidText, IsReceivedInside, message_content};
-ghost use Rattle.websocket.specs.Content.{received_content};
-ghost use Rattle.connection.specs.Receiving.{EndsAt, Received, Stopped, Waits};
+ghost use Rattle.websocket.specs.Content.{received_content, text};
+ghost use Rattle.connection.specs.Receiving.{EndsAt, Run, Served, stopped};
+ghost use Rattle.connection.specs.steps.States.{state_of};
 ghost use Rattle.connection.specs.Releasing.{IsFirstLost, ReportsFirst, Released};
-ghost use Rattle.connection.specs.Standing.{waiting_len};
-ghost use Rattle.connection.specs.declared.item.TheConstants.{MAX_LOAD, MAX_WAITING_LEN};
-ghost use Rattle.connection.specs.Serving.{CannotSend, Does, FailsAtHeld, FailsHearing};
-ghost use Rattle.connection.specs.Serving.{FailsTaking, Freed, HasRoom, Heard, IsFull, StaysHeld};
-ghost use Rattle.connection.specs.Serving.{IsBlocked, IsPaused, MayServe, Takes, queue, queued_reply, sent_text, unheld};
+ghost use Rattle.connection.specs.Standing.{ConnectionState, waiting_len};
+ghost use Rattle.connection.specs.declared.item.TheConstants.{MAX_LOAD, MAX_WAITING, MAX_WAITING_LEN};
+ghost use Rattle.connection.specs.Serving.{Does, FailsAt, FailsHearing, FailsStep, Freed, Heard};
+ghost use Rattle.connection.specs.Serving.{IsBlocked, IsPaused, Takes, data_of};
+ghost use Rattle.connection.specs.Serving.{queued_reply, sent_text};
 ghost use Rattle.connection.specs.declared.end.End.TheVariants as end;
 
 use crate::end::{End, end_of_error};
@@ -94,7 +95,10 @@ impl<S, D: Drop> Dialogue<S, D> {
     /// # Errors
     /// `NoMemory` if an allocation failed. Nothing has changed.
     pub(crate) fn push_reply(&mut self, frame: Vec<u8>) -> Result<(), End>
-        ensures ok { OnOk result (self.new ≡ queue self.old (queued_reply frame.items)) }
+        ensures ok { OnOk result (self.new ≡ record self.old {
+          waiting
+              = self.old.waiting ++ queued_reply frame.items;
+        }) }
         ensures err { OnErr result (self.new ≡ self.old) }
         ensures why { IfErr result (λ why. why ≡ end.NoMemory) }
     {
@@ -108,10 +112,14 @@ impl<S, D: Drop> Dialogue<S, D> {
     fn send(&mut self, context: &mut WebSocketContext, answer: Answer<D>) -> Result<(), End>
         ensures ok { OnOk result ((frame : List ℕ)
             × Sends context.old.role (Some (sent_text (string_bytes answer.text))) [] frame
-            × (self.new ≡ queue self.old (record { bytes = frame; reported = answer.reported } ∷ []))) }
+            × (self.new ≡ record self.old {
+              waiting
+                  = self.old.waiting ++ record { bytes = frame; reported = answer.reported } ∷ [];
+            })) }
         ensures context { context.new ≡ context.old }
         ensures err { OnErr result (self.new ≡ self.old) }
-        ensures why { IfErr result (CannotSend context.old (string_bytes answer.text)) }
+        ensures why { IfErr result (FailsStep
+            (write_step context.old (text (string_bytes answer.text)))) }
     {
         let Answer { text, reported } = answer;
         self.waiting.push_text(context, &text, reported)
@@ -131,9 +139,10 @@ impl<S, D: Drop> Dialogue<S, D> {
     ) -> Result<(), End>
         ensures ok { OnOk result (
             Freed (T.turn talk.now) context.old.role self.old.held self.old self.new
-            ⊎ ((may_hold ≡ true) × StaysHeld (T.waits talk.now) self.old.held self.old self.new)) }
-        ensures err { IfErr result (λ why. FailsAtHeld (T.turn talk.now) (T.fails talk.now)
-            context.old self.old.held why self.old self.new) }
+            ⊎ ((may_hold ≡ true) × IsSomeAnd self.old.held (T.waits talk.now self.old.session)
+            × (self.new ≡ self.old))) }
+        ensures err { IfErr result (λ why. IsSomeAnd self.old.held (λ message. FailsAt
+            (T.turn talk.now) (T.fails talk.now) context.old message why self.old self.new)) }
         ensures context { context.new ≡ context.old }
     {
         let Some(message) = self.held.take() else {
@@ -205,8 +214,9 @@ impl<S, D: Drop> Dialogue<S, D> {
     ) -> Result<(), End>
         ensures ok { OnOk result (Takes (T.turn talk.now) (T.waits talk.now)
             (Some (message_content message.entry)) context.old.role self.old self.new) }
-        ensures err { IfErr result (λ why. FailsTaking (T.turn talk.now) (T.fails talk.now)
-            (Some (message_content message.entry)) context.old why self.old self.new) }
+        ensures err { IfErr result (λ why. IsSomeAnd
+            (data_of (Some (message_content message.entry))) (λ bytes. FailsHearing
+            (T.turn talk.now) (T.fails talk.now) context.old bytes why self.old self.new)) }
         ensures context { context.new ≡ context.old }
     {
         match message {
@@ -237,9 +247,10 @@ impl<S, D: Drop> Dialogue<S, D> {
         ensures ok { OnOk result (Takes (T.turn talk.now) (T.waits talk.now)
             (option_map (received_content given.now.bytes.now) given.now.step.now.message)
             context.old.role self.old self.new) }
-        ensures err { IfErr result (λ why. FailsTaking (T.turn talk.now) (T.fails talk.now)
-            (option_map (received_content given.now.bytes.now) given.now.step.now.message) context.old
-            why self.old self.new) }
+        ensures err { IfErr result (λ why. IsSomeAnd (data_of
+            (option_map (received_content given.now.bytes.now) given.now.step.now.message))
+            (λ bytes. FailsHearing (T.turn talk.now) (T.fails talk.now) context.old bytes
+            why self.old self.new)) }
         ensures context { context.new ≡ context.old }
     {
         match &given.step.message {
@@ -263,10 +274,12 @@ impl<S, D: Drop> Dialogue<S, D> {
             × (read_step context.old input.old ≡ Ok (Complete p))
             × (context.new ≡ p.1.next) × (input.new ≡ drop p.0 input.old)
             × Does (T.turn talk.now) (T.waits talk.now) p.1 self.old self.new }
-        ensures waits { result ≡ Ok false → Waits context.old input.old
+        ensures waits { result ≡ Ok false → ((needed : ℕ)
+            × (read_step context.old input.old ≡ Ok (Partial needed)))
             × (context.new ≡ context.old) × (input.new ≡ input.old) × (self.new ≡ self.old) }
         ensures err { IfErr result (λ why. EndsAt (T.turn talk.now) (T.waits talk.now)
-            (T.fails talk.now) context.old input.old why self.old context.new self.new) }
+            (T.fails talk.now) (state_of context.old input.old self.old) why
+            (stopped (state_of context.new input.new self.new) why)) }
     {
         let mut reply = Vec::new(self.alloc);
         let step = match input.read(context, &mut reply) {
@@ -297,10 +310,17 @@ impl<S, D: Drop> Dialogue<S, D> {
         scratch: &mut T::Scratch,
         input: &mut Input,
     ) -> Result<bool, End>
-        ensures ok { IfOk result (Received (T.turn talk.now) (T.waits talk.now)
-            (T.blocks talk.now) context.old input.old self.old context.new input.new self.new) }
-        ensures err { IfErr result (λ why. Stopped (T.turn talk.now) (T.waits talk.now)
-            (T.blocks talk.now) (T.fails talk.now) context.old input.old self.old why context.new self.new) }
+        ensures ok { IfOk result (λ is_behind. ((frames : Run)
+            × Served (T.turn talk.now) (T.waits talk.now) (T.blocks talk.now) frames
+            (state_of context.old input.old self.old) (state_of context.new input.new self.new))
+            × (is_behind ≡ true → IsPaused (T.blocks talk.now) self.new)
+            × (is_behind ≡ false → (needed : ℕ)
+            × (read_step context.new input.new ≡ Ok (Partial needed)))) }
+        ensures err { IfErr result (λ why. (frames : Run) × (mid : ConnectionState S D)
+            × Served (T.turn talk.now) (T.waits talk.now) (T.blocks talk.now) frames
+            (state_of context.old input.old self.old) mid
+            × EndsAt (T.turn talk.now) (T.waits talk.now) (T.fails talk.now) mid why
+            (stopped (state_of context.new input.new self.new) why)) }
     {
         while !self.is_paused(talk) {
             match self.serve_frame(context, talk, scratch, input) {
@@ -343,8 +363,8 @@ impl<S, D: Drop> Dialogue<S, D> {
 
     /// Returns whether so much waits that no frame is served.
     fn is_full(&self) -> bool
-        ensures full { result ≡ true → IsFull self.now.waiting }
-        ensures room { result ≡ false → HasRoom self.now.waiting }
+        ensures { IsTrue result ↔ (MAX_WAITING ≤ length self.now.waiting)
+            ⊎ (MAX_WAITING_LEN ≤ waiting_len self.now.waiting) }
     {
         self.waiting.count() >= MAX_WAITING || self.waiting.len() >= MAX_WAITING_LEN
     }
@@ -360,7 +380,7 @@ impl<S, D: Drop> Dialogue<S, D> {
     /// Returns whether no frame is served for now: too much waits, or the held message blocks.
     fn is_paused<T: Talk<Session = S, Reported = D>>(&self, talk: &T) -> bool
         ensures paused { result ≡ true → IsPaused (T.blocks talk.now) self.now }
-        ensures serves { result ≡ false → MayServe (T.blocks talk.now) self.now }
+        ensures serves { result ≡ false → ¬ (IsPaused (T.blocks talk.now) self.now) }
     {
         self.is_full() || self.is_blocked(talk)
     }

@@ -26,8 +26,8 @@ pub fn bytes_come_in_any_pieces<T: Talk>()
 pub fn messages_are_answered_in_order<T: Talk>()
     ensures { (talk : T) (before after : ConnectionState T.Session T.Reported) (bytes : List ℕ)
         (r : Receives (T.turn talk) (T.waits talk) (T.blocks talk) before bytes after) →
-        HasNoClose r.received.frames →
-        AnsweredInOrder (T.turn talk) (messages r.received.frames) before.standing after.standing }
+        HasNoClose r.frames →
+        AnsweredInOrder (T.turn talk) (messages r.frames) before.standing after.standing }
 {}
 
 /// While a message is held that blocks, nothing is served: the bytes that come are kept for later.

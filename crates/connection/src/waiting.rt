@@ -5,11 +5,12 @@
 ghost use Rattle.std.specs.Prelude.{◌≡◌, ◌≢◌, ◌⊎◌, ◌<◌, ℕ, List, [], ◌++◌, ◌∷◌, IfErr, IfSome};
 ghost use Rattle.std.specs.Prelude.{IsSomeAnd, None, Ok, OnErr, OnOk, Some, drop, false, length, true};
 ghost use Rattle.std.specs.VecDeque.{deque_capacity, deque_len};
-ghost use Rattle.websocket.specs.Connection.{Sends};
+ghost use Rattle.websocket.specs.Connection.{Sends, write_step};
+ghost use Rattle.websocket.specs.Content.{text as text_content};
 ghost use Rattle.connection.specs.Standing.{waiting_len};
 ghost use Rattle.connection.specs.Releasing.{IsFirstLost, ReportsFirst};
 ghost use Rattle.connection.specs.steps.Frames.{IsRelease};
-ghost use Rattle.connection.specs.Serving.{CannotSend, queued_reply, sent_text};
+ghost use Rattle.connection.specs.Serving.{FailsStep, queued_reply, sent_text};
 ghost use Rattle.connection.specs.declared.end.End.TheVariants as end;
 
 use crate::end::{End, end_of_error};
@@ -107,7 +108,8 @@ impl<D: Drop> Waiting<D> {
             × (self.new ≡ self.old ++ record { bytes = frame; reported = reported } ∷ [])) }
         ensures context { context.new ≡ context.old }
         ensures err { OnErr result (self.new ≡ self.old) }
-        ensures why { IfErr result (CannotSend context.old text.now) }
+        ensures why { IfErr result (FailsStep
+            (write_step context.old (text_content text.now))) }
     {
         let before = self.bytes.len();
         if self.items.reserve(1).is_err() {

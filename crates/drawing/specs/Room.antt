@@ -8,25 +8,20 @@ use Rattle.rules.specs.declared.limits.LimitValues.{LimitValues}
 use Rattle.rules.specs.Limits.{full_limits}
 use Rattle.rules.specs.declared.history.Entry.{Entry}
 
--- a room: its limits and its record
 pub record Room : Type 0 where
   pub limits : LimitValues
   pub entries : List Entry
 
--- the room of these limits with this record
 abbrev pub room_of : LimitValues → List Entry → Room
 room_of limits entries = record { limits = limits; entries = entries }
 
--- the room with one more entry, if there is one
 abbrev pub with_entry : Room → Option Entry → Room
 with_entry room None = room
 with_entry room (Some entry) = record { limits = room.limits; entries = room.entries ++ entry ∷ [] }
 
--- a room with an empty record
 abbrev pub empty_room : LimitValues → Room
 empty_room limits = record { limits = limits; entries = [] }
 
--- a room of full limits with this record
 abbrev pub full_room : List Entry → Room
 full_room entries = record { limits = full_limits; entries = entries }
 

@@ -18,7 +18,6 @@ shown_by r name None = No (length r) NoSuchObject
 shown_by r name (Some op) =
     Versions (length r) name (kind_of_body op.body) (versions (operations r) name)
 
--- the versions of the object of a name
 abbrev pub shown : List Entry → Name → Reply
 shown r name = shown_by r name (creation_of (operations r) name)
 

@@ -7,7 +7,7 @@ use Rattle.std.proofs.lemmas.List.{get_or_append_left, get_or_at}
 use Rattle.std.proofs.lemmas.Option.{same_Some}
 use Rattle.rules.specs.declared.history.Entry.{Entry}
 use Rattle.rules.specs.Limits.{full_limits}
-use Rattle.rules.specs.Records.{admits, IsLegalAfter}
+use Rattle.rules.specs.Records.{admits, EachAfter}
 use Rattle.rules.proofs.Records.{admitted_at}
 use Rattle.wire.specs.Lines.{lines_of}
 use Rattle.wire_reader.specs.steps.Reads.{entry_read}
@@ -30,7 +30,7 @@ no_record : (front : List (List ℕ)) (line : List ℕ) (later : List (List ℕ)
 no_record front line later entries r before refused whole =
     let s = split_read entry_read front line later r whole.read in
     let same : entries ≡ s.before = same_read entry_read front entries s.before before.read s.front_read in
-    let legal : IsLegalAfter full_limits [] (s.before ++ s.this ∷ s.later) = subst (IsLegalAfter full_limits []) s.whole whole.legal in
+    let legal : EachAfter (admits full_limits) [] (s.before ++ s.this ∷ s.later) = subst (EachAfter (admits full_limits) []) s.whole whole.legal in
     let admitted : admits full_limits s.before s.this ≡ true = admitted_at full_limits [] s.before s.this s.later legal in
     true≢false (sym admitted ∙ ap (λ x. admits full_limits x s.this) (sym same) ∙ refused s.this s.line_read)
 

@@ -17,14 +17,12 @@ use Rattle.transcript.specs.Order.{IsInOrder, IsNext}
 abbrev pub room_at_line : List Entry → TranscriptLine → Room
 room_at_line r line = full_room (take (at_of line.reply) r)
 
--- The answer of the rules to a site's request, and the entry that it adds, if any. No session is in
--- as a site that comes back.
+-- the answer of the rules to a site's request; no session is in as a site that comes back
 abbrev pub due_to : Room → ℕ → Request → Outcome
 due_to room site (Join name) = join_answer room
 due_to room site (Back name asked) = reply_alone (back_reply room false site)
 due_to room site asks = answer room site asks
 
--- the answer of the rules to a line's request
 abbrev pub due : Room → TranscriptLine → Outcome
 due room line = due_to room line.site line.request
 
@@ -37,23 +35,19 @@ has_asker room line =
 abbrev pub may_ask : Room → TranscriptLine → Bool
 may_ask room line = if is_join_request line.request then true else has_site room line.site
 
--- The line's reply is that of this outcome. If it reports an entry, the record has the entry at the
--- line's AT.
+-- the line's reply is that of this outcome; the record has the entry that it reports at its AT
 pub record IsGiven (r : List Entry) (outcome : Outcome) (line : TranscriptLine) : Type 0 where
   pub reply : outcome.0 ≡ line.reply
   pub entry : adds line.reply ≡ true → slice_get r (at_of line.reply) ≡ outcome.1
 
--- the right site asks, and is answered as the rules say
 pub record IsAnswered (r : List Entry) (line : TranscriptLine) : Type 0 where
   pub asker : has_asker (room_at_line r line) line ≡ true
   pub given : IsGiven r (due (room_at_line r line) line) line
 
--- the line's AT is within the record, and the line is answered so
 pub record IsTrueLine (r : List Entry) (line : TranscriptLine) : Type 0 where
   pub within : at_of line.reply ≤ length r
   pub answered : IsAnswered r line
 
--- a true transcript of a record
 pub record IsTrueTranscript (r : List Entry) (lines : List TranscriptLine) : Type 0 where
   pub each : All (IsTrueLine r) lines
   pub order : AllPairs IsInOrder lines

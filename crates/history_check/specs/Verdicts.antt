@@ -10,7 +10,6 @@ use Rattle.history_check.specs.declared.verdict.Verdict.TheVariants.{BadTranscri
 use Rattle.restore.specs.Records.{AreRecord, IsBadRecord, IsSplit}
 use Rattle.history_check.specs.Transcripts.{IsTrueTranscript, MayFollow, IsAnswered}
 
--- these lines are a true transcript of a record
 pub record AreTranscript
     (r : List Entry) (lines : List (List ℕ)) (said : List TranscriptLine) : Type 0 where
   pub read : map line_read lines ≡ map Some said
@@ -40,21 +39,18 @@ IsBadLine r before bytes =
     (line : TranscriptLine) → line_read bytes ≡ Some line → ¬ MayFollow r before line
 
 -- the line may follow these, and is not what the rules answer
-pub record IsWrongLine
-    (r : List Entry) (before : List TranscriptLine) (bytes : List ℕ) : Type 0 where
+pub record IsWrongLine (r : List Entry) (before : List TranscriptLine) (bytes : List ℕ) : Type 0 where
   pub line : TranscriptLine
   pub read : line_read bytes ≡ Some line
   pub follows : MayFollow r before line
   pub wrong : ¬ IsAnswered r line
 
--- the verdict on a transcript of this record
 abbrev pub IsVerdictOn : List Entry → List (List ℕ) → Verdict → Type 0
 IsVerdictOn r lines Holds = (said : List TranscriptLine) × AreTranscript r lines said
 IsVerdictOn r lines (BadTranscript number) = FailsAt r lines number (IsBadLine r)
 IsVerdictOn r lines (WrongReply number) = FailsAt r lines number (IsWrongLine r)
 IsVerdictOn r lines (BadRecord number) = ⊥
 
--- the verdict on the bytes of a record and of a transcript
 abbrev pub IsVerdict : List ℕ → List ℕ → Verdict → Type 0
 IsVerdict entries transcript (BadRecord number) = IsBadRecord (lines_of entries) number
 IsVerdict entries transcript verdict =

@@ -6,7 +6,8 @@ use Rattle.base_types.specs.Texts.{Bytes}
 use Rattle.rules.specs.declared.history.Entry.{Entry}
 use Rattle.restore.specs.steps.Files.{FileView}
 use Rattle.room_lock.specs.Passes.{PrefixView}
-use Rattle.room_lock.specs.InOrder.{opening_name, openings_of}
+use Rattle.room_lock.specs.InOrder.{opening_name}
+use Rattle.room_lock.specs.steps.InOrder.{openings_of}
 
 abbrev pub entries_in : PrefixView → List Entry
 entries_in begun = begun.entries

@@ -10,7 +10,6 @@ abbrev pub IsInFile : Option (List ℕ) → Option (List ℕ) → List Entry →
 IsInFile held kept entries clean =
     IfSome kept (λ bytes. AreLines bytes entries) × (clean ≡ true → held ≡ kept)
 
--- what was reported of the room's record is a prefix of what is kept of it
 pub record IsKeptIn (kept reported : PrefixView) : Type 0 where
   pub opening_is : reported.opening ≡ kept.opening
   pub begins : IsPrefix reported.entries kept.entries

@@ -4,7 +4,7 @@ ghost use Rattle.std.specs.Prelude.{◌≡◌, ◌↔◌, ◌++◌, Err, IfErr, 
 ghost use Rattle.std.specs.Prelude.{length, map, option_map, true};
 ghost use Rattle.std.specs.Arc.{arc_value};
 ghost use Rattle.record_file.specs.RecordText.{AreLines, record_text};
-ghost use Rattle.room_lock.specs.InOrder.{opening_name, openings_of};
+ghost use Rattle.room_lock.specs.InOrder.{opening_name};
 ghost use Rattle.keeping.specs.declared.file.Tail.TheVariants.{Nothing, Broken};
 ghost use Rattle.keeping.specs.Tails.{is_clean, tail_after};
 ghost use Rattle.keeping.specs.steps.Faults.{keep_fault_of};
@@ -151,7 +151,7 @@ impl<P: RoomHistories, J: Journal + Drop> RoomFile<P, J> {
     ) -> Result<Vec<RoomFile<P, J>>, NoMemory>
         // There is a file for each room in order, with the room's name, and the room begins with
         // the file's record:
-        requires names { map opening_name (openings_of begun.now)
+        requires names { map opening_name (map (λ begun. begun.opening) begun.now)
             ≡ map (λ file. file.name) files.items }
         requires begun { map (λ begun. begun.entries) begun.now
             ≡ map (λ file. file.entries) files.items }

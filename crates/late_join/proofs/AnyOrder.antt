@@ -23,7 +23,7 @@ use Rattle.rules.specs.steps.Histories.{IsPartOf, AreSame}
 use Rattle.rules.specs.Admission.{Condition, first_that_applies, names_counted, count_at_site, has_wrong_seq, has_wrong_own_count, is_ahead, is_not_closed}
 use Rattle.rules.specs.Conflicts.{base, has_object, members, IsFounded}
 use Rattle.rules.specs.Versions.{groups, keys_of, versions}
-use Rattle.rules.specs.Records.{has_ended, is_end, operation_in, operations, objects, creation_conditions, change_conditions, has_too_many_keys, has_too_many_versions, IsLegal}
+use Rattle.rules.specs.Records.{has_ended, is_end, operation_in, operations, objects, creation_conditions, change_conditions, has_too_many_keys, has_too_many_versions, IsLegal, EachAfter}
 use Rattle.rules.proofs.Lists.{In, In-from_Contains, Contains-from_In, In-append_cases, In-append_left, In-append_right, In-filter, In-filter_back, In-filter_map, In-filter_map_back, In-map_back, In-range, any_from, any_back, any_none, find_is}
 use Rattle.rules.proofs.Once.{Once, Once-from_HasNoRepeats, HasNoRepeats-from_Once, Once-map, Once-filter, length_within}
 use Rattle.rules.proofs.Permutations.{in_permutation, once_permutation}
@@ -44,7 +44,7 @@ use Rattle.shape.specs.steps.Objects.{IsOf}
 use Rattle.wire.specs.declared.reply.Reply.TheVariants.{No, Versions}
 use Rattle.drawing.specs.steps.Objects.{object_with_changes}
 use Rattle.drawing.specs.Shown.{shown, shown_by}
-use Rattle.late_join.specs.Taking.{is_join_of, has_joined, lacks_another, may_take, has_past, IsTakeable, IsTakeableAfter, IsInOrderAfter, IsCausalOrderOf}
+use Rattle.late_join.specs.Taking.{is_join_of, has_joined, lacks_another, may_take, has_past, IsTakeable, IsCausalOrderOf}
 use Rattle.late_join.proofs.Taken.{taken_from, sound}
 use Rattle.late_join.proofs.Within.{IsWithin, within}
 
@@ -414,7 +414,7 @@ module _ (b : LimitValues) (r t : List Entry) (legal : IsLegal b r) (order : IsP
         ∙ passes
         )
 
-  take_rest : (front later : List Entry) → front ++ later ≡ t → IsClosed (operations front) → IsInOrderAfter front later → IsTakeableAfter b front later
+  take_rest : (front later : List Entry) → front ++ later ≡ t → IsClosed (operations front) → EachAfter has_past front later → EachAfter (may_take b) front later
   take_rest front [] is k g = tt
   take_rest front (Join site ∷ later) is k g = (
     take_join front site later is,

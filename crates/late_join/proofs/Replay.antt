@@ -10,10 +10,11 @@ use Rattle.rules.specs.declared.history.Entry.{Entry}
 use Rattle.rules.specs.declared.history.Entry.TheVariants.{Join, Next, Operation}
 use Rattle.rules.specs.declared.refusal.Refusal.TheVariants.{RoomFull, RecordFull}
 use Rattle.rules.specs.declared.limits.LimitValues.{LimitValues}
+use Rattle.rules.specs.Records.{EachAfter}
 use Rattle.rules.proofs.Conditions.{not_first}
 use Rattle.rules.proofs.Ended.{ended_so}
 use Rattle.rules.proofs.Records.{has_ended-kept}
-use Rattle.late_join.specs.Taking.{has_joined, take_fault, is_entry, may_take, IsTakeable, IsTakeableAfter}
+use Rattle.late_join.specs.Taking.{has_joined, take_fault, is_entry, may_take, IsTakeable}
 use Rattle.late_join.specs.Kept.{IsReplica, site_in, sites_in}
 use Rattle.late_join.proofs.Taken.{parts_of_taken}
 
@@ -27,7 +28,7 @@ joined_is (Next count ∷ t) site = joined_is t site
 
 -- ---- one entry more
 
-takeable_push_after : (b : LimitValues) (t rest : List Entry) (e : Entry) → IsTakeableAfter b t rest → may_take b (t ++ rest) e ≡ true → IsTakeableAfter b t (rest ++ e ∷ [])
+takeable_push_after : (b : LimitValues) (t rest : List Entry) (e : Entry) → EachAfter (may_take b) t rest → may_take b (t ++ rest) e ≡ true → EachAfter (may_take b) t (rest ++ e ∷ [])
 takeable_push_after b t [] e g a = (ap (λ x. may_take b x e) (sym (append-nil t)) ∙ a, tt)
 takeable_push_after b t (x ∷ rest) e g a = (g.0, takeable_push_after b (t ++ x ∷ []) rest e g.1 (ap (λ y. may_take b y e) (append_assoc t (x ∷ []) rest) ∙ a))
 

@@ -18,7 +18,7 @@ use Rattle.rules.specs.Admission.{Condition, first_that_applies, names_counted, 
 use Rattle.rules.specs.Admission.{has_wrong_seq, has_wrong_own_count, is_ahead, is_not_closed}
 use Rattle.rules.specs.steps.Histories.{causal_refusal}
 use Rattle.rules.specs.Conflicts.{IsFounded}
-use Rattle.rules.specs.Records.{has_ended, open_conditions, operations, refusal, creation_conditions, change_conditions}
+use Rattle.rules.specs.Records.{has_ended, open_conditions, operations, refusal, creation_conditions, change_conditions, EachAfter}
 use Rattle.rules.proofs.Lists.{In-from_Contains, any_back, any_none, find_none}
 use Rattle.rules.proofs.Counted.{In-names_counted_back, same_name-refl}
 use Rattle.rules.proofs.Conditions.{none_of_both, not_first}
@@ -28,7 +28,7 @@ use Rattle.rules.proofs.Records.{operations-end, operations-join, operations-pus
 use Rattle.shape.proofs.Next.{next_ordered}
 use Rattle.shape.proofs.Refusals.{passed}
 use Rattle.late_join.specs.declared.fault.TakeFault.TheVariants.{Repeat, Early, Refused}
-use Rattle.late_join.specs.Taking.{has_joined, is_repeat, is_early, lacks_another, arriving_conditions, taking_conditions, take_fault, is_entry, may_take, IsTakeable, IsTakeableAfter}
+use Rattle.late_join.specs.Taking.{has_joined, is_repeat, is_early, lacks_another, arriving_conditions, taking_conditions, take_fault, is_entry, may_take, IsTakeable}
 
 -- ---- one entry
 
@@ -170,7 +170,7 @@ sound_push b t o s k =
       whole = whole_push h o s.whole k.seq;
     }
 
-sound_after : (b : LimitValues) (t rest : List Entry) → IsSound (operations t) → IsTakeableAfter b t rest → IsSound (operations (t ++ rest))
+sound_after : (b : LimitValues) (t rest : List Entry) → IsSound (operations t) → EachAfter (may_take b) t rest → IsSound (operations (t ++ rest))
 sound_after b t [] s g = subst (λ x. IsSound (operations x)) (sym (append-nil t)) s
 sound_after b t (Join site ∷ rest) s g =
     subst (λ x. IsSound (operations x)) (append_assoc t (Join site ∷ []) rest)

@@ -19,7 +19,7 @@ use Rattle.rules.specs.Admission.{Condition, first_that_applies}
 use Rattle.rules.specs.Conflicts.{base, has_object, members}
 use Rattle.rules.specs.Versions.{groups, keys_of}
 use Rattle.rules.specs.steps.Keys.{new_keys}
-use Rattle.rules.specs.Records.{has_ended, is_end, operation_in, operations, objects, sites, admits, is_placed, refusal, order_conditions, change_conditions, creation_conditions, has_too_many_keys, has_too_many_versions, IsLegal, IsLegalAfter}
+use Rattle.rules.specs.Records.{has_ended, is_end, operation_in, operations, objects, sites, admits, is_placed, refusal, order_conditions, change_conditions, creation_conditions, has_too_many_keys, has_too_many_versions, IsLegal, EachAfter}
 use Rattle.rules.proofs.Lists.{In, Contains-from_In, In-append_cases, In-append_left, In-append_right, In-filter_map, any_from}
 use Rattle.rules.proofs.Once.{Once, Once-append}
 use Rattle.rules.proofs.Reordered.{SameMembers}
@@ -302,7 +302,7 @@ module _ (b : LimitValues) (r : List Entry) (legal : IsLegal b r) (w : IsWithin 
       fits = λ o m t. subst (λ k. Fits b k (object_of o)) (sym (operations-push r p)) (fits_with o (subst (λ k. In o k) (operations-push r p) m) t);
     }
 
-within_after : (b : LimitValues) (r rest : List Entry) → IsLegal b r → IsWithin b r → IsLegalAfter b r rest → IsWithin b (r ++ rest)
+within_after : (b : LimitValues) (r rest : List Entry) → IsLegal b r → IsWithin b r → EachAfter (admits b) r rest → IsWithin b (r ++ rest)
 within_after b r [] l w g = subst (IsWithin b) (sym (append-nil r)) w
 within_after b r (Join site ∷ rest) l w g =
     subst (IsWithin b) (append_assoc r (Join site ∷ []) rest)

@@ -1,5 +1,5 @@
 -- Which entry may be taken after others, in any causal order.
-use Rattle.std.specs.Prelude.{◌≡◌, ℕ, Bool, true, false, not, ◌&&◌, ◌||◌, List, [], ◌∷◌, ◌++◌}
+use Rattle.std.specs.Prelude.{ℕ, Bool, true, false, not, ◌&&◌, ◌||◌, List, [], ◌∷◌, ◌++◌}
 use Rattle.std.specs.Prelude.{Option, Some, ◌==◌, nat_le, nat_lt, length, is_some, is_none}
 use Rattle.std.specs.Prelude.{option_map, if◌then◌else◌}
 use Rattle.std.specs.List.{list_any}
@@ -14,23 +14,18 @@ use Rattle.rules.specs.declared.limits.LimitValues.{LimitValues}
 use Rattle.rules.specs.Operations.{operation}
 use Rattle.rules.specs.Admission.{Condition, first_that_applies, names_counted, count_at_site}
 use Rattle.rules.specs.Admission.{has_wrong_seq, has_wrong_own_count, is_ahead, is_not_closed}
-use Rattle.rules.specs.Records.{operations, body_conditions, has_ended, next_conditions}
+use Rattle.rules.specs.Records.{operations, body_conditions, has_ended, next_conditions, EachAfter}
 use Rattle.late_join.specs.declared.fault.TakeFault.{TakeFault}
 use Rattle.late_join.specs.declared.fault.TakeFault.TheVariants.{Repeat, Early, Refused}
 
--- ---- what was taken
-
--- the entry is this site's join
 abbrev pub is_join_of : ℕ → Entry → Bool
 is_join_of site (Join other) = other == site
-is_join_of site (Operation op) = false
-is_join_of site (Next count) = false
+is_join_of site _ = false
 
--- the site's join was taken
 abbrev pub has_joined : List Entry → ℕ → Bool
 has_joined t site = list_any (is_join_of site) t
 
--- the entry was taken: the join, an operation of the site with this number, or an end
+-- the entry was taken: an operation by its number, an end by any end
 abbrev pub is_repeat : List Entry → Entry → Bool
 is_repeat t (Join site) = has_joined t site
 is_repeat t (Operation op) = nat_le op.name.1 (count_at_site (operations t) op.name.0)
@@ -42,81 +37,51 @@ lacks_another h op =
     list_any (λ name. not (name.0 == op.name.0) && not (is_some (operation h name)))
     (names_counted op.seen)
 
--- Something that the entry depends on was not taken: its site's join, the site's previous
--- operation, or an operation of another site that it counts. This does not distinguish an operation
--- that was taken itself.
+-- the entry is no repeat, and something that it depends on was not taken: its site's join, the site's
+-- previous operation, or an operation of another site that it counts
 abbrev pub is_early : List Entry → Entry → Bool
-is_early t (Join site) = false
 is_early t (Operation op) =
     not (has_joined t op.name.0) || has_wrong_seq (operations t) op.name
     || lacks_another (operations t) op
-is_early t (Next count) = false
+is_early t _ = false
 
--- ---- what is refused
-
--- the conditions for a join, in any order of the sites
-abbrev pub joining_conditions : LimitValues → List Entry → ℕ → List Condition
-joining_conditions b t site =
-    (site == 0 || nat_lt b.joins site, RoomFull) ∷ (nat_le b.entries (length t), RecordFull) ∷ []
-
--- the conditions for every operation
 abbrev pub arriving_conditions : LimitValues → List Entry → Op → List Condition
 arriving_conditions b t op =
     (nat_le b.entries (length t), RecordFull) ∷ (has_wrong_own_count op.name op.seen, OwnCount)
     ∷ (is_not_closed (operations t) op.seen, NotClosed) ∷ []
 
--- the conditions for an entry that is neither a repeat nor early, in this order. An end ends nothing
--- here: what comes before it may be taken after it
+-- the conditions on an entry that is neither a repeat nor early. Joins come in any order of the sites,
+-- and what comes before an end may be taken after it
 abbrev pub taking_conditions : LimitValues → List Entry → Entry → List Condition
-taking_conditions b t (Join site) = joining_conditions b t site
-taking_conditions b t (Operation op) =
-    arriving_conditions b t op ++ body_conditions b t op
+taking_conditions b t (Join site) =
+    (site == 0 || nat_lt b.joins site, RoomFull) ∷ (nat_le b.entries (length t), RecordFull) ∷ []
+taking_conditions b t (Operation op) = arriving_conditions b t op ++ body_conditions b t op
 taking_conditions b t (Next count) = next_conditions b t
 
--- why this entry, whose vector is in range, is not taken after these; `None` if it may be
+-- why this entry, whose vector is in range, is not taken after these
 unfoldable pub take_fault : LimitValues → List Entry → Entry → Option TakeFault
 take_fault b t entry =
     if is_repeat t entry then Some Repeat
     else (if is_early t entry then Some Early
     else option_map Refused (first_that_applies (taking_conditions b t entry)))
 
--- ---- takeable lists
-
 -- the vector of an operation is in range
 abbrev pub is_entry : Entry → Bool
-is_entry (Join site) = true
 is_entry (Operation op) = is_vector op.seen
-is_entry (Next count) = true
+is_entry _ = true
 
--- the entry may be taken next
 abbrev pub may_take : LimitValues → List Entry → Entry → Bool
 may_take b t entry = is_entry entry && is_none (take_fault b t entry)
 
--- each of the later entries may be taken after all before it
-abbrev pub IsTakeableAfter : LimitValues → List Entry → List Entry → Type 0
-IsTakeableAfter b t [] = Unit {0}
-IsTakeableAfter b t (entry ∷ later) =
-    (may_take b t entry ≡ true) × IsTakeableAfter b (t ++ entry ∷ []) later
-
--- a takeable list: each entry may be taken after those before it
 abbrev pub IsTakeable : LimitValues → List Entry → Type 0
-IsTakeable b t = IsTakeableAfter b [] t
-
--- ---- causal orders of a record
+IsTakeable b t = EachAfter (may_take b) [] t
 
 -- what an operation depends on was taken: its site's join, and each operation that it counts
 abbrev pub has_past : List Entry → Entry → Bool
-has_past t (Join site) = true
 has_past t (Operation op) = has_joined t op.name.0 && not (is_ahead (operations t) op.seen)
-has_past t (Next count) = true
+has_past t _ = true
 
-abbrev pub IsInOrderAfter : List Entry → List Entry → Type 0
-IsInOrderAfter t [] = Unit {0}
-IsInOrderAfter t (entry ∷ later) =
-    (has_past t entry ≡ true) × IsInOrderAfter (t ++ entry ∷ []) later
-
--- The entries of r in a causal order. Each operation comes after its site's join and after all that
--- it counts.
+-- the entries of r in a causal order: each after what it depends on
 pub record IsCausalOrderOf (r t : List Entry) : Type 0 where
   pub same : IsPermutation r t
-  pub ordered : IsInOrderAfter [] t
+  pub ordered : EachAfter has_past [] t

@@ -6,7 +6,6 @@ use Rattle.std.proofs.lemmas.Bool.Decides.{nat_tests}
 use Rattle.std.proofs.lemmas.List.Concat.{flat_map-append}
 use Rattle.std.proofs.lemmas.Str.{encode_ascii, encodes-append}
 use mathlib.Core.Logic.{⊎_elim}
-use borrow.Author.Tests.{ltb-true}
 use lib.Utf8.{encode, encodes}
 use Rattle.metrics.specs.declared.escape.Place.{Place}
 use Rattle.metrics.specs.declared.escape.Place.TheVariants.{Help, LabelValue}

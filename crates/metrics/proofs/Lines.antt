@@ -1,6 +1,6 @@
 -- How many lines a text has.
-use Rattle.std.proofs.Common.{◌≡◌, ℕ, ◌+◌, ◌*◌, ◌/◌, ◌%◌, ◌-◌, ◌≤◌, suc, zero, Bool, true, false, cond, eqb, eqb-true, ◌&&◌, ◌||◌, List, [], ◌∷◌, ◌++◌, length, refl, sym, ap, ◌∙◌, arith}
-use Rattle.std.specs.Prelude.{◌==◌, codes, count_by, sum_by, replicate}
+use Rattle.std.proofs.Common.{◌≡◌, ℕ, ◌+◌, ◌/◌, ◌%◌, ◌-◌, ◌≤◌, suc, zero, Bool, true, false, cond, eqb, eqb-true, ◌&&◌, List, [], ◌∷◌, ◌++◌, length, refl, sym, ◌∙◌, arith}
+use Rattle.std.specs.Prelude.{◌==◌, not, codes, count_by, sum_by, replicate}
 use Rattle.std.specs.List.{flat_map, list_all}
 use Rattle.std.specs.Fmt.{decimal, digits, digits_onto, digit_glyph}
 use Rattle.std.proofs.lemmas.Bool.Decides.{nat_tests}
@@ -12,8 +12,8 @@ use Rattle.metrics.specs.declared.family.Kind.{Kind}
 use Rattle.metrics.specs.declared.family.Kind.TheVariants.{Counter, Gauge, Histogram}
 use Rattle.metrics.specs.declared.family.Suffix.{Suffix}
 use Rattle.metrics.specs.declared.family.Suffix.TheVariants.{Plain, Bucket, Sum, Count}
-use Rattle.metrics.specs.Numbers.{number_text, seconds_text, six_digits}
-use Rattle.metrics.specs.Names.{is_letter, is_digit, is_label_name, is_metric_name, has_legal_names}
+use Rattle.metrics.specs.Numbers.{number_text}
+use Rattle.metrics.specs.Names.{has_no_line_end, has_names_in_line}
 use Rattle.metrics.specs.Families.{LabelView, SampleView, FamilyView, kind_word, suffix_text, help_byte, value_byte, label_text, labels_text, sample_text, family_head, family_text, families_text}
 
 -- how many lines a text ends
@@ -126,30 +126,20 @@ of_escaped escape each (byte ∷ text) = two (each byte) (of_escaped escape each
 
 -- ---- names
 
-of_label_name : (name : List ℕ) → is_label_name name ≡ true → Ends name 0
-of_label_name [] legal = record { is = refl }
-of_label_name (first ∷ others) legal =
-    let parts = both (is_letter first) (list_all (λ byte. is_letter byte || is_digit byte) others) legal in
-    none-cons is_letter refl first others parts.0 (none (λ byte. is_letter byte || is_digit byte) refl others parts.1)
-
-of_metric_name : (name : List ℕ) → is_metric_name name ≡ true → Ends name 0
-of_metric_name [] legal = record { is = refl }
-of_metric_name (first ∷ others) legal =
-    let rest = λ (byte : ℕ). is_letter byte || eqb byte 58 || is_digit byte in
-    let parts = both (is_letter first || eqb first 58) (list_all rest others) legal in
-    none-cons (λ byte. is_letter byte || eqb byte 58) refl first others parts.0 (none rest refl others parts.1)
+of_name : (name : List ℕ) → has_no_line_end name ≡ true → Ends name 0
+of_name name legal = none (λ (byte : ℕ). not (eqb byte 10)) refl name legal
 
 -- ---- families
 
-of_label : (label : LabelView) → is_label_name label.name ≡ true → Ends (label_text label) 0
+of_label : (label : LabelView) → has_no_line_end label.name ≡ true → Ends (label_text label) 0
 of_label label legal =
-    two (two (two (of_label_name label.name legal) (lit (codes "=\""))) (of_escaped value_byte of_value_byte label.value)) (lit (codes "\""))
+    two (two (two (of_name label.name legal) (lit (codes "=\""))) (of_escaped value_byte of_value_byte label.value)) (lit (codes "\""))
 
-of_labels : (labels : List LabelView) → list_all (λ label. is_label_name label.name) labels ≡ true → Ends (labels_text labels) 0
+of_labels : (labels : List LabelView) → list_all (λ label. has_no_line_end label.name) labels ≡ true → Ends (labels_text labels) 0
 of_labels [] legal = record { is = refl }
 of_labels (first ∷ others) legal =
-    let parts = both (is_label_name first.name) (list_all (λ label. is_label_name label.name) others) legal in
-    let behind = ends-flat_map (λ (label : LabelView). codes "," ++ label_text label) (λ _. 0) (λ label. is_label_name label.name)
+    let parts = both (has_no_line_end first.name) (list_all (λ label. has_no_line_end label.name) others) legal in
+    let behind = ends-flat_map (λ (label : LabelView). codes "," ++ label_text label) (λ _. 0) (λ label. has_no_line_end label.name)
     (λ label legal'. two (lit (codes ",")) (of_label label legal')) others parts.1 in
     let more : Ends (flat_map (λ (label : LabelView). codes "," ++ label_text label) others) 0 = record { is = behind.is ∙ sum_by-none others } in
     two (two (two (lit (codes "{")) (of_label first parts.0)) more) (lit (codes "}"))
@@ -166,7 +156,7 @@ of_kind Gauge = lit (codes "gauge")
 of_kind Histogram = lit (codes "histogram")
 
 of_sample : (name : List ℕ) → Ends name 0 → (sample : SampleView)
-    → list_all (λ label. is_label_name label.name) sample.labels ≡ true → Ends (sample_text name sample) 1
+    → list_all (λ label. has_no_line_end label.name) sample.labels ≡ true → Ends (sample_text name sample) 1
 of_sample name named sample legal =
     two (two (two (two (two named (of_suffix sample.suffix)) (of_labels sample.labels legal)) (lit (codes " "))) (of_number sample.number))
     (lit (codes "\n"))
@@ -176,16 +166,16 @@ of_head family named =
     two (two (two (two (two (two (two (two (lit (codes "# HELP ")) named) (lit (codes " "))) (of_escaped help_byte of_help_byte family.help))
     (lit (codes "\n# TYPE "))) named) (lit (codes " "))) (of_kind family.kind)) (lit (codes "\n"))
 
-of_family : (family : FamilyView) → has_legal_names family ≡ true → Ends (family_text family) (2 + length family.samples)
+of_family : (family : FamilyView) → has_names_in_line family ≡ true → Ends (family_text family) (2 + length family.samples)
 of_family family legal =
-    let parts = both (is_metric_name family.name) (list_all (λ sample. list_all (λ label. is_label_name label.name) sample.labels) family.samples) legal in
-    let named = of_metric_name family.name parts.0 in
-    let behind = ends-flat_map (sample_text family.name) (λ _. 1) (λ sample. list_all (λ label. is_label_name label.name) sample.labels)
+    let parts = both (has_no_line_end family.name) (list_all (λ sample. list_all (λ label. has_no_line_end label.name) sample.labels) family.samples) legal in
+    let named = of_name family.name parts.0 in
+    let behind = ends-flat_map (sample_text family.name) (λ _. 1) (λ sample. list_all (λ label. has_no_line_end label.name) sample.labels)
     (of_sample family.name named) family.samples parts.1 in
     let samples : Ends (flat_map (sample_text family.name) family.samples) (length family.samples) = record { is = behind.is ∙ sum_by-one family.samples } in
     two (of_head family named) samples
 
 -- two lines for each family and one for each sample
-pub lines_of_families : (families : List FamilyView) → list_all has_legal_names families ≡ true
+pub lines_of_families : (families : List FamilyView) → list_all has_names_in_line families ≡ true
     → count_by (λ byte. byte == 10) (families_text families) ≡ sum_by (λ family. 2 + length family.samples) families
-lines_of_families families legal = (ends-flat_map family_text (λ family. 2 + length family.samples) has_legal_names of_family families legal).is
+lines_of_families families legal = (ends-flat_map family_text (λ family. 2 + length family.samples) has_names_in_line of_family families legal).is

@@ -1,5 +1,5 @@
 -- Numbers as they are written.
-use Rattle.std.proofs.Common.{◌≡◌, ℕ, ◌/◌, ◌%◌, ◌-◌, [], ◌∷◌, ◌++◌, refl, ap, sym, ◌∙◌, length, append-nil, append_assoc, arith}
+use Rattle.std.proofs.Common.{◌≡◌, ℕ, ◌/◌, ◌%◌, ◌-◌, [], ◌∷◌, ◌++◌, ap, sym, ◌∙◌, length, append-nil, append_assoc, arith}
 use Rattle.std.specs.Fmt.{decimal, styled_decimal, padded_integral, char_count, format_spec}
 use Rattle.metrics.specs.declared.number.Number.{Number}
 use Rattle.metrics.specs.declared.number.Number.TheVariants.{Micros}

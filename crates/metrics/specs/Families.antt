@@ -9,18 +9,15 @@ use Rattle.metrics.specs.declared.family.Suffix.TheVariants.{Plain, Bucket, Sum,
 use Rattle.metrics.specs.declared.number.Number.{Number}
 use Rattle.metrics.specs.Numbers.{number_text}
 
--- a label: its name and its value
 pub record LabelView : Type 0 where
   pub name : Bytes
   pub value : Bytes
 
--- a number of a family, with its labels
 pub record SampleView : Type 0 where
   pub suffix : Suffix
   pub labels : List LabelView
   pub number : Number
 
--- a metric: a name, what it tells, and its samples
 pub record FamilyView : Type 0 where
   pub name : Bytes
   pub help : Bytes

@@ -6,13 +6,12 @@ use Rattle.metrics.specs.declared.family.Suffix.TheVariants as suffix
 use Rattle.metrics.specs.declared.number.Number.TheVariants.{Whole, Micros}
 use Rattle.metrics.specs.declared.histogram.Bucket.{Bucket}
 use Rattle.metrics.specs.Numbers.{seconds_text}
-use Rattle.metrics.specs.Families.{LabelView, SampleView}
+use Rattle.metrics.specs.Families.{SampleView}
 
 -- a count as it is told: at most the greatest number of 64 bits
 abbrev pub told_count : ℕ → ℕ
 told_count count = min count (2 ^ 64 - 1)
 
--- how many times are in these buckets
 abbrev pub count_in : List Bucket → ℕ
 count_in buckets = sum_by (λ bucket. bucket.count) buckets
 

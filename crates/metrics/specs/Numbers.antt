@@ -5,11 +5,10 @@ use Rattle.base_types.specs.Texts.{Bytes}
 use Rattle.metrics.specs.declared.number.Number.{Number}
 use Rattle.metrics.specs.declared.number.Number.TheVariants.{Whole, Micros}
 
--- a number below a million, with zeros before it up to six digits
+-- with zeros before it up to six digits
 abbrev pub six_digits : ℕ → Bytes
 six_digits number = replicate (6 - length (decimal number)) 48 ++ decimal number
 
--- a time in microseconds, in seconds
 abbrev pub seconds_text : ℕ → Bytes
 seconds_text micros = decimal (micros / 1000000) ++ codes "." ++ six_digits (micros % 1000000)
 

@@ -7,6 +7,5 @@ use Rattle.wire.specs.Notes.{Notes}
 abbrev pub NotePlaces : Type 0
 NotePlaces = List (Option Bytes)
 
--- the note of each site that has one
 abbrev pub notes_at : NotePlaces → Notes
 notes_at places site = slice_index_or places site None

@@ -2,7 +2,8 @@
 use Rattle.std.proofs.Common.{◌≡◌, ℕ, zero, suc, ◌<◌, List, [], ◌∷◌, ◌++◌, length, ap, sym, ◌∙◌, arith}
 use Rattle.std.proofs.Math.Seq.{get_or-append_seam}
 use mathlib.Core.List.{IsPrefix}
-use Rattle.openings.specs.Openings.{Opened, OpeningView, never_opened, opened_at}
+use Rattle.openings.specs.Openings.{Opened, OpeningView}
+use Rattle.openings.specs.steps.OpenedRooms.{never_opened, opened_at}
 
 -- what stands in a beginning stands in the whole
 prefix_get : (xs ys : List Opened) (n : ℕ) → IsPrefix xs ys → n < length xs → opened_at xs n ≡ opened_at ys n

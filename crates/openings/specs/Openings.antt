@@ -1,5 +1,5 @@
 -- The openings of rooms, in order.
-use Rattle.std.specs.Prelude.{ℕ, List, [], slice_index_or}
+use Rattle.std.specs.Prelude.{ℕ}
 use Rattle.logbook.specs.Pages.{Book}
 use Rattle.base_types.specs.Texts.{Bytes}
 
@@ -13,11 +13,3 @@ pub record Opened : Type 0 where
 pub record OpeningView : Type 0 where
   pub number : ℕ
   pub room : Opened
-
--- stands for a room past the last one
-abbrev pub never_opened : Opened
-never_opened = record { place = 0; name = []; history = record { number = 0; log_name = 0; cells_name = 0 } }
-
--- the room of this number
-abbrev pub opened_at : List Opened → ℕ → Opened
-opened_at rooms number = slice_index_or rooms number never_opened

@@ -1,1 +1,2 @@
+pub mod OpenedRooms
 pub mod Rules

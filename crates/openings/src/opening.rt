@@ -1,7 +1,7 @@
 //! An opening of a room.
 
 ghost use Rattle.std.specs.Prelude.{◌≡◌, ◌↔◌, ◌<◌, length, true};
-ghost use Rattle.openings.specs.Openings.{opened_at};
+ghost use Rattle.openings.specs.steps.OpenedRooms.{opened_at};
 
 use crate::histories::RoomHistories;
 use crate::new_opening::NewOpening;
@@ -21,7 +21,8 @@ pub struct Opening<P: RoomHistories> {
 
 impl<P: RoomHistories> Model for Opening<P> {
     ghost use Rattle.std.specs.Prelude.{◌≡◌, ◌<◌, length};
-    ghost use Rattle.openings.specs.Openings.{OpeningView, opened_at};
+    ghost use Rattle.openings.specs.Openings.{OpeningView};
+    ghost use Rattle.openings.specs.steps.OpenedRooms.{opened_at};
 
     ghost Value = { OpeningView };
 

@@ -6,11 +6,9 @@ use Rattle.wire.specs.Form.{entry_form}
 use Rattle.wire.specs.Lines.{ends_line, lines_of}
 use Rattle.wire_reader.specs.steps.Reads.{entry_read}
 
--- the compact text of an entry, and an LF
 abbrev pub entry_line : Entry → List ℕ
 entry_line entry = compact_text (entry_form entry) ++ 10 ∷ []
 
--- a line for each entry
 abbrev pub record_text : List Entry → List ℕ
 record_text entries = flat_map entry_line entries
 

@@ -12,16 +12,14 @@ use Rattle.drawing.specs.Shown.{shown}
 use Rattle.wire.specs.declared.reply.Reply.{Reply}
 use Rattle.wire.specs.declared.reply.Reply.TheVariants.{Versions}
 
--- the attributes of a version that is not gone
 abbrev pub attrs_shown : Shown → Option (List Attr)
 attrs_shown (Attrs attrs) = Some attrs
 attrs_shown Gone = None
 
--- the attributes of the versions that are not gone, in order of identifier
 abbrev pub live_versions : List Version → List (List Attr)
 live_versions versions = filter_map (λ version. attrs_shown version.shown) versions
 
--- an object as it is drawn: its kind, and the attributes of its versions that are not gone
+-- an object's kind, and the attributes of its versions that are not gone
 abbrev pub Drawn : Type 0
 Drawn = Bytes × List (List Attr)
 
@@ -30,7 +28,6 @@ abbrev pub drawn_if : Bytes → List (List Attr) → Option Drawn
 drawn_if kind [] = None
 drawn_if kind (attrs ∷ more) = Some (kind, attrs ∷ more)
 
--- what the answer to a show draws
 abbrev pub picture_in : Reply → Option Drawn
 picture_in (Versions at object kind versions) = drawn_if kind (live_versions versions)
 picture_in _ = None

@@ -13,12 +13,10 @@ pub record IsRenewal (old new : List Entry) : Type 0 where
   pub legal : IsLegal full_limits new
   pub same : drawn new ≡ drawn old
 
--- the room's record is a renewal of the old one, and no longer
 pub record IsShortRenewal (old new : List Entry) : Type 0 where
   pub renewal : IsRenewal old new
   pub length : length new ≤ length old
 
--- a renewed room, or none
 abbrev pub IsRenewed : List Entry → Renewal → Type 0
 IsRenewed old (renewal.Room new) =
     IsShortRenewal old new.room.entries × (new.room ≡ full_room new.room.entries)

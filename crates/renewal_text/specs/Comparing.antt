@@ -8,8 +8,7 @@ use Rattle.renewal_text.specs.declared.comparing.Comparison.TheVariants.{Holds, 
 use Rattle.renewal_text.specs.declared.comparing.Comparison.TheVariants.{BadNewRecord, Differs}
 
 -- the lines of both are records, of which this is true
-abbrev pub OfRecords :
-    List (List ℕ) → List (List ℕ) → (List Entry → List Entry → Type 0) → Type 0
+abbrev pub OfRecords : List (List ℕ) → List (List ℕ) → (List Entry → List Entry → Type 0) → Type 0
 OfRecords old_lines new_lines P =
     (old : List Entry) × (new : List Entry) × AreRecord old_lines old × AreRecord new_lines new
     × P old new

@@ -7,7 +7,7 @@ use Rattle.restore.specs.Records.{AreRecord, IsBadRecord}
 use Rattle.renewal_text.specs.declared.renewing.RenewedText.{RenewedText}
 use Rattle.renewal_text.specs.declared.renewing.RenewedText.TheVariants.{Text, BadRecord, Declined}
 
--- the text of a renewal of the record; or the number of its first bad line; or it is a record
+-- the text of a renewal; or the first bad line; or a record is not renewed
 abbrev pub IsRenewedText : List (List ℕ) → RenewedText → Type 0
 IsRenewedText lines (Text text) =
     (old : List Entry) × (new : List Entry) × AreRecord lines old × IsShortRenewal old new

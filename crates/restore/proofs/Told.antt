@@ -5,7 +5,7 @@ use Rattle.std.proofs.lemmas.List.{map-append}
 use mathlib.Core.List.{IsPrefix}
 use Rattle.rules.specs.declared.history.Entry.{Entry}
 use Rattle.rules.specs.Limits.{full_limits}
-use Rattle.rules.specs.Records.{admits, IsLegal, IsLegalAfter}
+use Rattle.rules.specs.Records.{admits, IsLegal, EachAfter}
 use Rattle.wire.specs.Lines.{lines_of}
 use Rattle.wire_reader.specs.steps.Reads.{entry_read}
 use Rattle.record_file.specs.RecordText.{AreLines, whole_lines}
@@ -27,7 +27,7 @@ some_prefix (x ∷ told) (y ∷ r) m e =
 behind : (before told entries : List Entry) (ls more front later : List (List ℕ)) (line : List ℕ)
     → map entry_read ls ≡ map Some told → ls ++ more ≡ front ++ line ∷ later → map entry_read front ≡ map Some entries
     → ((entry : Entry) → entry_read line ≡ Some entry → admits full_limits (before ++ entries) entry ≡ false)
-    → IsLegalAfter full_limits before told → length told ≤ length front
+    → EachAfter (admits full_limits) before told → length told ≤ length front
 behind before [] entries ls more front later line read split fronts refused legal = omega arith
 behind before (e ∷ told) entries [] more front later line read split fronts refused legal = absurd (cc)
 behind before (e ∷ told) [] (l ∷ ls) more [] later line read split fronts refused legal =

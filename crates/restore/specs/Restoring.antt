@@ -13,8 +13,7 @@ use Rattle.restore.specs.Records.{AreRecord, IsBadRecord}
 abbrev pub IsRestored : List ℕ → Restored → Type 0
 IsRestored bytes (restored.Room room whole) =
     AreRecord (lines_of (whole_lines bytes)) room.room.entries × (room.room.limits ≡ full_limits)
-    × (take whole bytes ≡ whole_lines bytes)
-    × (whole ≤ length bytes)
+    × (take whole bytes ≡ whole_lines bytes) × (whole ≤ length bytes)
 IsRestored bytes (restored.Bad number) = IsBadRecord (lines_of (whole_lines bytes)) number
 
 -- the room's record begins with all that was told, or the bad line comes after its lines

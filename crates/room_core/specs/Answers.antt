@@ -1,7 +1,6 @@
 -- What a room answers: a reply, and the entry that is added if there is one.
 use Rattle.std.specs.Prelude.{ℕ, ◌+◌, Bool, ◌&&◌, List, Option, Some, None, nat_le, nat_lt, length}
 use Rattle.std.specs.Prelude.{take, drop, if◌then◌else◌}
-use Rattle.base_types.specs.Names.{Name}
 use Rattle.rules.specs.declared.history.Op.{Op}
 use Rattle.base_types.specs.Vectors.{Vector}
 use Rattle.rules.specs.declared.history.Body.{Body}
@@ -24,7 +23,6 @@ use Rattle.wire.specs.declared.reply.Reply.TheVariants.{Entries, Left, No}
 abbrev pub Outcome : Type 0
 Outcome = Reply × Option Entry
 
--- the room after it
 abbrev pub room_after : Room → Outcome → Room
 room_after room outcome = with_entry room outcome.1
 
@@ -45,10 +43,9 @@ entry_answer room entry reply =
 
 -- the next site joins
 unfoldable pub join_answer : Room → Outcome
-join_answer room = let site =
-    sites room.entries + 1 in entry_answer room (Join site) (Joined (length room.entries) site)
+join_answer room = let site = sites room.entries + 1 in
+    entry_answer room (Join site) (Joined (length room.entries) site)
 
--- an operation by its parts
 abbrev pub operation_by : ℕ → ℕ → Vector → Body → Op
 operation_by site seq seen body = record { name = (site, seq); seen = seen; body = body }
 
@@ -58,25 +55,18 @@ operation_reply room op =
     if is_change_body op.body then Taken (length room.entries) (ids_with room op)
     else Made (length room.entries) op.name
 
--- the answer to an operation
 abbrev pub operation_answer : Room → Op → Outcome
 operation_answer room op = entry_answer room (Operation op) (operation_reply room op)
-
--- the versions of an object
-abbrev pub show_reply : Room → Name → Reply
-show_reply room name = shown room.entries name
 
 -- a page of a list, from a place on
 abbrev pub page : {X : Type 0} → Room → ℕ → List X → List X
 page room from xs = take room.limits.page (drop from xs)
 
--- a page of the objects with their kinds, in order of creation
 abbrev pub list_reply : Room → ℕ → Reply
 list_reply room from = let total = length (objects room.entries) in
     if nat_lt total from then No (length room.entries) TooFar
     else Objects (length room.entries) from total (page room from (all_objects room.entries))
 
--- a page of the record
 abbrev pub pull_reply : Room → ℕ → Reply
 pull_reply room from =
     if nat_lt (length room.entries) from then No (length room.entries) TooFar
@@ -88,12 +78,12 @@ site_answer room site (Request.Join name) = reply_alone (No 0 AlreadyJoined)
 site_answer room site (Request.Back name other) = reply_alone (No 0 AlreadyJoined)
 site_answer room site (Request.Change seq seen body) =
     operation_answer room (operation_by site seq seen body)
-site_answer room site (Request.Show object) = reply_alone (show_reply room object)
+site_answer room site (Request.Show object) = reply_alone (shown room.entries object)
 site_answer room site (Request.List from) = reply_alone (list_reply room from)
 site_answer room site (Request.Pull from waits) = reply_alone (pull_reply room from)
 site_answer room site Request.Leave = reply_alone (Left (length room.entries))
 
--- is it the number of a site that has joined
+-- a site of this number has joined
 abbrev pub has_site : Room → ℕ → Bool
 has_site room site = nat_le 1 site && nat_le site (sites room.entries)
 
@@ -104,8 +94,7 @@ back_reply room in_use site = let at = length room.entries in
     then (if in_use then No at SiteInUse
     else Returned at site (count_at_site (operations room.entries) site)) else No at NoSuchSite
 
--- The answer to a request of a session that claims to be this site. Which session may ask a room is
--- not decided here, but where sessions are.
+-- the answer to a request of a session that claims to be this site
 unfoldable pub answer : Room → ℕ → Request → Outcome
 answer room site request =
     if has_site room site then site_answer room site request else reply_alone (No 0 NotJoined)

@@ -15,9 +15,7 @@ use Rattle.rules.specs.Versions.{version_of}
 use Rattle.rules.specs.Records.{operations}
 use Rattle.room_core.specs.Room.{Room}
 
--- The versions of an object after these operations: one for each maximal compatible group of the
--- changes on it, each group once, with the group's identifier and the attributes that its own
--- operations decide, in order of identifier.
+-- the versions of an object: one for each maximal compatible group of its changes, each group once
 pub record AreVersionsOf (h : List Op) (object : Name) (versions : List Version) : Type 0 where
   pub groups : List (List Op)
   pub maximal : (g : List Op) → Contains groups g ↔ IsGroup (conflict h) (changes_on h object) g
@@ -25,7 +23,7 @@ pub record AreVersionsOf (h : List Op) (object : Name) (versions : List Version)
   pub shown : IsPermutation (map (version_of h object) groups) versions
   pub rising : IsStrictlySortedBy id_cmp (map (λ version. version.id) versions)
 
--- the room has so many entries, and in them this object, of this kind and with these versions
+-- the room has so many entries, and in them this object
 pub record HasObject (room : Room) (at : ℕ) (object : Name) (kind : Bytes)
     (versions : List Version) : Type 0 where
   pub at_end : at ≡ length room.entries

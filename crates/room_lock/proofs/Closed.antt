@@ -13,8 +13,8 @@ use Rattle.room_lock.specs.Passes.{PartView}
 use Rattle.room_lock.specs.Sites.{count_of_sites}
 use Rattle.room_lock.specs.Sites.{count_of_site}
 use Rattle.room_lock.specs.Shelves.{Shelf, IsPartFor, IsShelfOf, part_of}
-use Rattle.room_lock.specs.Closing.{IsClosed, IsOfRecord, added_of, site_of}
-use Rattle.room_lock.specs.steps.Closing.{HasItsEntries, IsComplete}
+use Rattle.room_lock.specs.Closing.{IsClosed, IsOfRecord}
+use Rattle.room_lock.specs.steps.Closing.{HasItsEntries, IsComplete, added_of, site_of}
 use Rattle.room_lock.proofs.Answers.{count_of_front}
 use Rattle.room_lock.proofs.Shares.{counts_within, each_same, sum_mapped}
 
@@ -54,10 +54,10 @@ module _ (limits : LimitValues) (opening : OpeningView) (r : List Entry) (shelf 
     counted = sym (length-map parts Some) ∙ ap length full ∙ kept.counted
 
     sites_are : map site_of parts ≡ range_with_len 1 (sites r)
-    sites_are = sites_from parts 1 (λ k part is. (part_at k part is).site_is ∙ (let e : suc k ≡ 1 + k = omega arith in e)) ∙ ap (range_with_len 1) counted
+    sites_are = sites_from parts 1 (λ k part is. (part_at k part is).1 ∙ (let e : suc k ≡ 1 + k = omega arith in e)) ∙ ap (range_with_len 1) counted
 
     begins : (k : ℕ) (d : PartView) → k < length parts → IsPrefix (get_or parts k d).seen r
-    begins k d lt = (part_at k (get_or parts k d) (slice_get-get_or parts k d lt)).seen
+    begins k d lt = (part_at k (get_or parts k d) (slice_get-get_or parts k d lt)).2
 
     at_most : All (λ part. added_of part ≤ count_of_site part.site r) parts
     at_most k d lt =

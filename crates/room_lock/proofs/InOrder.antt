@@ -14,7 +14,8 @@ use Rattle.crossbeam_utils.specs.declared.cache_padded.CachePadded.{CachePadded}
 use Rattle.base_types.specs.Texts.{Bytes}
 use Rattle.openings.specs.Openings.{OpeningView}
 use Rattle.room_core.proofs.Seen.{some_same}
-use Rattle.room_lock.specs.InOrder.{AreInOrder, IsOpeningFor, opening_name, number_of, openings_in, opening_place}
+use Rattle.room_lock.specs.InOrder.{AreInOrder, IsOpeningFor, opening_name}
+use Rattle.room_lock.specs.steps.InOrder.{number_of, openings_in, opening_place}
 use Rattle.room_lock.specs.steps.Openings.{AreNamed}
 use Rattle.room_lock.specs.Rooms.{RoomsView}
 

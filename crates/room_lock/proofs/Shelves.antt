@@ -67,7 +67,7 @@ module _ (opening : OpeningView) (r : List Entry) (shelf : Shelf) (kept : IsShel
   part_grown : (q : List Entry) → IsPrefix r q → (site : ℕ) (part : PartView) → part_of shelf site ≡ Some part → IsPartFor opening q site part
   part_grown q p site part is =
       let old = kept.parts site part is in
-      record { opening_is = old.opening_is; site_is = old.site_is; seen = prefix_trans part.seen r q old.seen p }
+      (old.0, old.1, prefix_trans part.seen r q old.2 p)
 
   -- the record has grown, and no site has joined
   pub shelf_grown : (q : List Entry) → IsPrefix r q → sites q ≡ sites r → IsShelfOf opening q shelf
@@ -105,13 +105,13 @@ module _ (opening : OpeningView) (r : List Entry) (shelf : Shelf) (kept : IsShel
       go : (other : ℕ) (part : PartView) → part_of (with_at shelf new.site (Some new)) other ≡ Some part → (b : Bool) → Rattle.std.proofs.Common.eqb new.site other ≡ b → IsPartFor opening r other part
       go other part is true e =
           let same : new ≡ part = Rattle.room_core.proofs.Seen.some_same (part_with shelf new.site other (Some new) part is true e) in
-          subst (λ (p : PartView). IsPartFor opening r other p) same (record { opening_is = opening_is; site_is = eqb-true new.site other e; seen = seen })
+          subst (λ (p : PartView). IsPartFor opening r other p) same (opening_is, eqb-true new.site other e, seen)
       go other part is false e = kept.parts other part (part_with shelf new.site other (Some new) part is false e)
 
 -- ---- the shelf of a room that begins with a record
 
 part_is : {opening : OpeningView} {r : List Entry} {site : ℕ} (part : PartView) → whole_part opening r site ≡ part → IsPartFor opening r site part
-part_is {opening} {r} {site} part is = subst (IsPartFor opening r site) is (record { opening_is = refl; site_is = refl; seen = ([], append-nil r) })
+part_is {opening} {r} {site} part is = subst (IsPartFor opening r site) is (refl, refl, ([], append-nil r))
 
 pub full_is_shelf : (opening : OpeningView) (r : List Entry) → IsShelfOf opening r (full_shelf opening r)
 full_is_shelf opening r = record { counted = length-map-range_with_len at 1 (sites r); parts = found }

@@ -6,13 +6,11 @@ use Rattle.base_types.specs.RoomNames.{is_in_chain}
 use Rattle.room_lock.specs.declared.offered.Offered.{Offered}
 use Rattle.room_lock.specs.declared.offered.Offered.TheVariants.{Every, Chains}
 
--- the room of this name is one of those that may be opened on demand
 abbrev pub is_offered : Offered → Bytes → Bool
 is_offered Every name = true
 is_offered (Chains firsts) name = list_any (λ first. is_in_chain first name) firsts.items
 
--- the names of the rooms that are open from the start, in order, how many others may be open, and
--- which
+-- the names of the rooms that are open from the start, how many others may be open, and which
 pub record RoomsView : Type 0 where
   pub names : List Bytes
   pub others : ℕ
@@ -22,11 +20,9 @@ pub record RoomsView : Type 0 where
 abbrev pub IsOffered : RoomsView → Bytes → Type 0
 IsOffered rooms name = (0 < rooms.others) × (is_offered rooms.offered name ≡ true)
 
--- there is a room of this name: it is open from the start, or may be opened on demand
 abbrev pub Serves : RoomsView → Bytes → Type 0
 Serves rooms name = Contains rooms.names name ⊎ IsOffered rooms name
 
--- the room of this name is opened on demand
 abbrev pub IsOnDemand : RoomsView → Bytes → Type 0
 IsOnDemand rooms name = (¬ (Contains rooms.names name)) × IsOffered rooms name
 

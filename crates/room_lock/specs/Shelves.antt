@@ -17,7 +17,7 @@ abbrev pub part_of : Shelf → ℕ → Option PartView
 part_of shelf zero = None
 part_of shelf (suc place) = slice_index_or shelf place None
 
--- a session is in as this site
+-- the site has joined, and a session is in as it
 abbrev pub is_away : Shelf → ℕ → Bool
 is_away shelf site =
     nat_le 1 site && nat_le site (length shelf) && not (is_some (part_of shelf site))
@@ -26,15 +26,11 @@ is_away shelf site =
 abbrev pub AreOfSitesIn : Shelf → NotePlaces → Type 0
 AreOfSitesIn shelf notes = (site : ℕ) → notes_at notes site ≢ None → is_away shelf site ≡ true
 
--- the part belongs to this site of the room of this opening, and has seen a prefix of its record
-pub record IsPartFor (opening : OpeningView) (r : List Entry) (site : ℕ) (part : PartView)
-    : Type 0 where
-  pub opening_is : part.opening ≡ opening
-  pub site_is : part.site ≡ site
-  pub seen : IsPrefix part.seen r
+module _ (opening : OpeningView) (r : List Entry) where
+  abbrev pub IsPartFor : ℕ → PartView → Type 0
+  IsPartFor site part = (part.opening ≡ opening) × (part.site ≡ site) × IsPrefix part.seen r
 
--- there is a place for each site that has joined, and each part is at its site's place
-pub record IsShelfOf (opening : OpeningView) (r : List Entry) (shelf : Shelf) : Type 0 where
-  pub counted : length shelf ≡ sites r
-  pub parts : (site : ℕ) (part : PartView) → part_of shelf site ≡ Some part
-      → IsPartFor opening r site part
+  -- there is a place for each site that has joined, and each part is at its site's place
+  pub record IsShelfOf (shelf : Shelf) : Type 0 where
+    pub counted : length shelf ≡ sites r
+    pub parts : (site : ℕ) (part : PartView) → part_of shelf site ≡ Some part → IsPartFor site part

@@ -4,7 +4,6 @@ use Rattle.rules.specs.Records.{is_end}
 use Rattle.rules.specs.declared.history.Entry.{Entry}
 use Rattle.rules.specs.declared.history.Entry.TheVariants.{Join, Next, Operation}
 
--- what an answer adds, as a list
 abbrev pub none_or_one : {X : Type 0} → Option X → List X
 none_or_one None = []
 none_or_one (Some x) = x ∷ []
@@ -19,6 +18,5 @@ is_of_site site (Next count) = false
 abbrev pub count_of_sites : List Entry → ℕ
 count_of_sites r = count_by (λ entry. not (is_end entry)) r
 
--- the number of the site's entries
 abbrev pub count_of_site : ℕ → List Entry → ℕ
 count_of_site site r = count_by (is_of_site site) r

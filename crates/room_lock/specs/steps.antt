@@ -7,4 +7,5 @@ pub mod Kept
 pub mod Shelves
 pub mod Views
 pub mod Openings
+pub mod InOrder
 pub mod Closing

@@ -5,8 +5,8 @@ ghost use Rattle.std.specs.Prelude.{sum_by};
 ghost use Rattle.std.specs.Arc.{arc_value};
 ghost use Rattle.base_types.specs.Texts.{Bytes};
 ghost use Rattle.indexmap.specs.IndexMap.{keys};
-ghost use Rattle.room_lock.specs.Closing.{IsClosed, added_of};
-ghost use Rattle.room_lock.specs.steps.Closing.{HasItsEntries};
+ghost use Rattle.room_lock.specs.Closing.{IsClosed};
+ghost use Rattle.room_lock.specs.steps.Closing.{HasItsEntries, added_of};
 
 use crate::fault::CloseFault;
 use crate::others::Others;

@@ -5,7 +5,8 @@ ghost use Rattle.std.specs.Prelude.{IfOk, IsErrOf, OnErr, OnOk, None, Some, byte
 ghost use Rattle.indexmap.specs.IndexMap.{get, keys};
 ghost use Rattle.base_types.specs.Repeats.{first_repeat};
 ghost use Rattle.base_types.specs.declared.fault.RoomsFault.TheVariants as rooms_fault;
-ghost use Rattle.room_lock.specs.InOrder.{AreInOrder, openings_in, openings_of};
+ghost use Rattle.room_lock.specs.InOrder.{AreInOrder};
+ghost use Rattle.room_lock.specs.steps.InOrder.{openings_in, openings_of};
 ghost use Rattle.room_lock.specs.steps.Planned.{IsPlanOf};
 
 use crate::new_room::{NewRoom, empty_states};

@@ -56,9 +56,10 @@ pub struct Rooms<P: RoomHistories> {
 }
 
 impl<P: RoomHistories> Model for Rooms<P> {
-    ghost use Rattle.std.specs.Prelude.{◌≡◌, ◌≤◌, ◌<◌, ◌^◌, length};
+    ghost use Rattle.std.specs.Prelude.{◌≡◌, ◌≤◌, ◌<◌, ◌^◌, length, map};
     ghost use Rattle.indexmap.specs.IndexMap.{keys};
-    ghost use Rattle.room_lock.specs.InOrder.{AreInOrder, openings_in};
+    ghost use Rattle.crossbeam_utils.specs.Padded.{padded_value};
+    ghost use Rattle.room_lock.specs.InOrder.{AreInOrder};
     ghost use Rattle.room_lock.specs.Rooms.{RoomsView};
 
     ghost Value = { RoomsView };
@@ -69,7 +70,8 @@ impl<P: RoomHistories> Model for Rooms<P> {
       offered = r.offered;
     } };
 
-    ghost invariant = { λ r. AreInOrder (keys r.rooms) (openings_in r.rooms.entries)
+    ghost invariant = { λ r.
+        AreInOrder (keys r.rooms) (map (λ room. padded_value room.1) r.rooms.entries)
         × (r.limits ≡ P.limits) × (length (keys r.rooms) ≤ 2 ^ 49) × (r.others < 2 ^ 32) };
 }
 

@@ -4,7 +4,7 @@ use Rattle.std.proofs.lemmas.Bool.{true≢false}
 use Rattle.rules.specs.declared.history.Entry.{Entry}
 use Rattle.rules.specs.declared.history.Entry.TheVariants.{Next}
 use Rattle.rules.specs.declared.limits.LimitValues.{LimitValues}
-use Rattle.rules.specs.Records.{admits, has_ended, IsLegal, IsLegalAfter}
+use Rattle.rules.specs.Records.{admits, has_ended, IsLegal, EachAfter}
 use Rattle.rules.proofs.Conditions.{open_if_admitted}
 use Rattle.rules.proofs.Records.{admitted_at, has_ended-push}
 
@@ -20,5 +20,5 @@ pub nothing_after : (b : LimitValues) (q s : List Entry) (count : ℕ) → IsLeg
 nothing_after b q [] count legal = refl
 nothing_after b q (e ∷ s) count legal =
     let front = q ++ Next count ∷ [] in
-    let a : admits b front e ≡ true = admitted_at b [] front e s (subst (IsLegalAfter b []) (sym (append_assoc q (Next count ∷ []) (e ∷ s))) legal) in
+    let a : admits b front e ≡ true = admitted_at b [] front e s (subst (EachAfter (admits b) []) (sym (append_assoc q (Next count ∷ []) (e ∷ s))) legal) in
     absurd (true≢false (sym (ended_so q count) ∙ (open_if_admitted b front e a).0))

@@ -11,7 +11,7 @@ use Rattle.rules.specs.declared.history.Entry.TheVariants.{Join, Operation, Next
 use Rattle.rules.specs.declared.limits.LimitValues.{LimitValues}
 use Rattle.rules.specs.Bodies.{is_change_body}
 use Rattle.rules.specs.Admission.{count_at_site}
-use Rattle.rules.specs.Records.{operation_in, operations, sites, objects, is_join, is_end, has_ended, admits, IsLegal, IsLegalAfter}
+use Rattle.rules.specs.Records.{operation_in, operations, sites, objects, is_join, is_end, has_ended, admits, IsLegal, EachAfter}
 
 pub filter-push : {X : Type 0} (p : X → Bool) (xs : List X) (x : X) → filter p (xs ++ x ∷ []) ≡ filter p xs ++ cond (p x) (x ∷ []) []
 filter-push p xs x = filter-append p xs (x ∷ [])
@@ -67,7 +67,7 @@ module _ (r : List Entry) where
 
 -- ---- legal records
 
-legal_push_after : (b : LimitValues) (r rest : List Entry) (e : Entry) → IsLegalAfter b r rest → admits b (r ++ rest) e ≡ true → IsLegalAfter b r (rest ++ e ∷ [])
+legal_push_after : (b : LimitValues) (r rest : List Entry) (e : Entry) → EachAfter (admits b) r rest → admits b (r ++ rest) e ≡ true → EachAfter (admits b) r (rest ++ e ∷ [])
 legal_push_after b r [] e g a = (ap (λ x. admits b x e) (sym (append-nil r)) ∙ a, tt)
 legal_push_after b r (x ∷ rest) e g a = (g.0, legal_push_after b (r ++ x ∷ []) rest e g.1 (ap (λ y. admits b y e) (append_assoc r (x ∷ []) rest) ∙ a))
 
@@ -76,12 +76,12 @@ pub legal_push : (b : LimitValues) (r : List Entry) (e : Entry) → IsLegal b r 
 legal_push b r e g a = legal_push_after b [] r e g a
 
 -- each entry of a legal record is admitted by those before it
-pub admitted_at : (b : LimitValues) (r before : List Entry) (e : Entry) (later : List Entry) → IsLegalAfter b r (before ++ e ∷ later) → admits b (r ++ before) e ≡ true
+pub admitted_at : (b : LimitValues) (r before : List Entry) (e : Entry) (later : List Entry) → EachAfter (admits b) r (before ++ e ∷ later) → admits b (r ++ before) e ≡ true
 admitted_at b r [] e later g = ap (λ x. admits b x e) (append-nil r) ∙ g.0
 admitted_at b r (x ∷ before) e later g = ap (λ y. admits b y e) (sym (append_assoc r (x ∷ []) before)) ∙ admitted_at b (r ++ x ∷ []) before e later g.1
 
 -- what each admitted entry keeps, a legal record has
-kept_after : (b : LimitValues) (P : List Entry → Type 0) → ((r : List Entry) (e : Entry) → IsLegal b r → P r → admits b r e ≡ true → P (r ++ e ∷ [])) → (r rest : List Entry) → IsLegal b r → P r → IsLegalAfter b r rest → P (r ++ rest)
+kept_after : (b : LimitValues) (P : List Entry → Type 0) → ((r : List Entry) (e : Entry) → IsLegal b r → P r → admits b r e ≡ true → P (r ++ e ∷ [])) → (r rest : List Entry) → IsLegal b r → P r → EachAfter (admits b) r rest → P (r ++ rest)
 kept_after b P keeps r [] l p g = subst P (sym (append-nil r)) p
 kept_after b P keeps r (e ∷ rest) l p g = subst P (append_assoc r (e ∷ []) rest) (kept_after b P keeps (r ++ e ∷ []) rest (legal_push b r e l g.0) (keeps r e l p g.0) g.1)
 

@@ -9,7 +9,7 @@ use Rattle.rules.specs.declared.refusal.Refusal.{Refusal}
 use Rattle.rules.specs.declared.refusal.Refusal.TheVariants.{WrongSeq, OwnCount, Ahead, NotClosed}
 use Rattle.rules.specs.Operations.{operation}
 
--- a condition, which is true if its refusal applies
+-- if it is true, its refusal applies
 abbrev pub Condition : Type 0
 Condition = Bool × Refusal
 
@@ -21,11 +21,9 @@ first_that_applies conditions = option_map (λ c. c.1) (find (λ c. c.0) conditi
 abbrev pub names_counted : Vector → List Name
 names_counted v = flat_map (λ pair. map (λ n. (pair.0, n)) (range_with_len 1 pair.1)) v
 
--- the number of a site's operations
 abbrev pub count_at_site : List Op → ℕ → ℕ
 count_at_site h site = count_by (λ op. op.name.0 == site) h
 
--- the name is not the site's next one
 abbrev pub has_wrong_seq : List Op → Name → Bool
 has_wrong_seq h name = not (name.1 == count_at_site h name.0 + 1)
 
@@ -33,7 +31,6 @@ has_wrong_seq h name = not (name.1 == count_at_site h name.0 + 1)
 abbrev pub has_wrong_own_count : Name → Vector → Bool
 has_wrong_own_count name v = not (count_of v name.0 + 1 == name.1)
 
--- the vector counts an operation that isn't there
 abbrev pub is_ahead : List Op → Vector → Bool
 is_ahead h v = list_any (λ name. not (is_some (operation h name))) (names_counted v)
 
@@ -41,8 +38,7 @@ is_ahead h v = list_any (λ name. not (is_some (operation h name))) (names_count
 abbrev pub is_not_closed : List Op → Vector → Bool
 is_not_closed h v = list_any (λ op. counts v op.name && not (covers v op.seen)) h
 
--- the conditions on the name and the vector of an operation, in order
 abbrev pub causal_conditions : List Op → Name → Vector → List Condition
-causal_conditions h name v = (has_wrong_seq h name, WrongSeq)
-    ∷ (has_wrong_own_count name v, OwnCount) ∷ (is_ahead h v, Ahead)
-    ∷ (is_not_closed h v, NotClosed) ∷ []
+causal_conditions h name v =
+    (has_wrong_seq h name, WrongSeq) ∷ (has_wrong_own_count name v, OwnCount)
+    ∷ (is_ahead h v, Ahead) ∷ (is_not_closed h v, NotClosed) ∷ []

@@ -11,11 +11,9 @@ use Rattle.rules.specs.declared.attrs.AttrsFault.TheVariants.{TooMany, Repeated}
 use Rattle.rules.specs.declared.pairs.PairsFault.{PairsFault}
 use Rattle.rules.specs.declared.pairs.PairsFault.TheVariants as pairs_faults
 
--- a key with its value
 abbrev pub Attr : Type 0
 Attr = Bytes × Value
 
--- the value of a key in a list of attributes
 abbrev pub value_at : Bytes → List Attr → Option Value
 value_at key attrs = option_map (λ attr. attr.1) (find (λ attr. bytes_eq attr.0 key) attrs)
 
@@ -32,13 +30,12 @@ do_pairs_differ first second =
 abbrev pub same_key : Attr → Attr → Bool
 same_key p q = bytes_eq p.0 q.0
 
--- the first fault of initial attributes
+-- the first fault of a creation's attributes
 unfoldable pub attrs_fault : List Attr → Option AttrsFault
 attrs_fault attrs =
     if nat_lt 16 (length attrs) then Some TooMany
     else option_map Repeated (first_repeat same_key attrs)
 
--- at most 16 attributes, and no key twice
 abbrev pub are_attrs : List Attr → Bool
 are_attrs attrs = is_none (attrs_fault attrs)
 
@@ -49,6 +46,5 @@ pairs_fault pairs =
     else (if nat_lt 16 (length pairs) then Some pairs_faults.TooMany
     else option_map pairs_faults.Repeated (first_repeat same_key pairs))
 
--- 1 to 16 attributes, and no key twice
 abbrev pub are_pairs : List Attr → Bool
 are_pairs pairs = is_none (pairs_fault pairs)

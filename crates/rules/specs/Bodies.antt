@@ -7,26 +7,20 @@ use Rattle.rules.specs.declared.history.Body.{Body}
 use Rattle.rules.specs.declared.history.Body.TheVariants.{New, Put, DropVersion}
 use Rattle.rules.specs.AttrLists.{Attr, value_at, do_pairs_differ}
 
--- does it change an object, and not create one
+-- it changes an object, and does not create one
 abbrev pub is_change_body : Body → Bool
 is_change_body (New kind attrs) = false
-is_change_body (Put object version pairs) = true
-is_change_body (DropVersion object version) = true
+is_change_body _ = true
 
--- is the change a put
 abbrev pub is_put_body : Body → Bool
-is_put_body (New kind attrs) = false
 is_put_body (Put object version pairs) = true
-is_put_body (DropVersion object version) = false
+is_put_body _ = false
 
--- is the change a drop
 abbrev pub is_drop_body : Body → Bool
-is_drop_body (New kind attrs) = false
-is_drop_body (Put object version pairs) = false
 is_drop_body (DropVersion object version) = true
+is_drop_body _ = false
 
--- the object that an operation of this name and body creates or changes: it has the name of its
--- creation
+-- the object that an operation of this name creates or changes: it has the name of its creation
 abbrev pub object_of_body : Name → Body → Name
 object_of_body name (New kind attrs) = name
 object_of_body name (Put object version pairs) = object
@@ -40,19 +34,15 @@ version_of_body (DropVersion object version) = version
 
 -- the attributes that a put gives, in their order
 abbrev pub pairs_of_body : Body → List Attr
-pairs_of_body (New kind attrs) = []
 pairs_of_body (Put object version pairs) = pairs
-pairs_of_body (DropVersion object version) = []
+pairs_of_body _ = []
 
--- the keys that a put gives values
 abbrev pub keys_of_body : Body → List Bytes
 keys_of_body body = map (λ attr. attr.0) (pairs_of_body body)
 
--- the value that a put gives a key
 abbrev pub value_of_body : Bytes → Body → Option Value
 value_of_body key body = value_at key (pairs_of_body body)
 
--- two puts give some key different values
 abbrev pub differ_on_a_key : Body → Body → Bool
 differ_on_a_key first second = do_pairs_differ (pairs_of_body first) (pairs_of_body second)
 
@@ -62,19 +52,16 @@ is_one_a_drop (Put object version pairs) (DropVersion other_object other_version
 is_one_a_drop (DropVersion object version) (Put other_object other_version pairs) = true
 is_one_a_drop _ _ = false
 
--- two changes are at odds: they are puts that give some key different values, or exactly one is a
--- drop
+-- two changes are puts that give some key different values, or exactly one is a drop
 abbrev pub are_at_odds : Body → Body → Bool
 are_at_odds first second = differ_on_a_key first second || is_one_a_drop first second
 
 -- the kind that a creation gives its object; a change gives none
 abbrev pub kind_of_body : Body → Bytes
 kind_of_body (New kind attrs) = kind
-kind_of_body (Put object version pairs) = []
-kind_of_body (DropVersion object version) = []
+kind_of_body _ = []
 
 -- the attributes that a creation gives its object; a change gives none
 abbrev pub initial_in : Body → List Attr
 initial_in (New kind attrs) = attrs
-initial_in (Put object version pairs) = []
-initial_in (DropVersion object version) = []
+initial_in _ = []

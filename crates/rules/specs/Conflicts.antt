@@ -1,6 +1,5 @@
--- The base of a change, and when two changes conflict. The basic conflict is that of Sun and Chen
--- (ACM TOCHI 9(1), 2002): concurrent, on one object and one attribute, with different values.
--- Bases, drops and inherited conflict are our own.
+-- The base of a change, and conflict. That of Sun and Chen (ACM TOCHI 9(1), 2002) is concurrent, on one
+-- object and one attribute, with different values; bases, drops and inherited conflict are our own.
 use Rattle.std.specs.Prelude.{◌≡◌, ℕ, zero, suc, ◌+◌, Bool, true, false, ◌&&◌, List, []}
 use Rattle.std.specs.Prelude.{◌∷◌, Option, Some, None, Contains, is_some}
 use Rattle.std.specs.List.{list_any}
@@ -20,7 +19,6 @@ members (Some g) = g
 abbrev pub with_base : (Op → Option (List Op)) → Op → List Op
 with_base base b = b ∷ members (base b)
 
--- two changes of one object conflict directly: they are concurrent and at odds
 abbrev pub direct_conflict : Op → Op → Bool
 direct_conflict a b = concurrent a b && are_at_odds a.body b.body
 
@@ -29,7 +27,6 @@ abbrev pub conflict_by : (Op → Option (List Op)) → Op → Op → Bool
 conflict_by base a b =
     list_any (λ x. list_any (direct_conflict x) (with_base base b)) (with_base base a)
 
--- how many operations a vector counts
 abbrev pub total : Vector → ℕ
 total [] = 0
 total (pair ∷ pairs) = pair.1 + total pairs
@@ -40,8 +37,7 @@ base_within zero h b = None
 base_within (suc n) h b =
     group_named (conflict_by (base_within n h)) name_of (known h b) (version_of_body b.body)
 
--- The base of b: the group of what b knows whose identifier b names. Each operation before b counts
--- fewer than b does.
+-- the group of what b knows whose identifier b names; each operation before b counts fewer than b
 unfoldable pub base : List Op → Op → Option (List Op)
 base h b = base_within (suc (total b.seen)) h b
 
@@ -49,12 +45,10 @@ base h b = base_within (suc (total b.seen)) h b
 unfoldable pub conflict : List Op → Op → Op → Bool
 conflict h = conflict_by (base h)
 
--- b counts a creation of its object
 abbrev pub has_object : List Op → Op → Bool
 has_object h b = list_any (λ a. is_creation_of (object_of b) a && before a b) h
 
--- each change's object is a creation that it counts, and each change has a base, in which there is
--- no drop
+-- each change counts a creation of its object, and has a base, in which there is no drop
 pub record IsFounded (h : List Op) : Type 0 where
   pub object : (b : Op) → Contains h b → is_change_body b.body ≡ true → has_object h b ≡ true
   pub based : (b : Op) → Contains h b → is_change_body b.body ≡ true → is_some (base h b) ≡ true

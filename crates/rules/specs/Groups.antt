@@ -24,8 +24,7 @@ is_compatible conflict g = list_all (λ x. not (in_conflict_with conflict g x)) 
 abbrev pub is_maximal : {X : Type 0} → (X → X → Bool) → List X → List X → Bool
 is_maximal conflict g rest = list_all (in_conflict_with conflict g) rest
 
--- The groups of s: its parts without a conflict, such that each other member of s conflicts with a
--- member of the part. The empty list has one group, the empty one.
+-- the groups of s: its maximal compatible parts; the empty list has one, the empty one
 unfoldable pub groups_of : {X : Type 0} → (X → X → Bool) → List X → List (List X)
 groups_of conflict s =
     map (λ p. p.0)
@@ -40,8 +39,6 @@ unfoldable pub group_named : {X : Type 0} → (X → X → Bool) → (X → Name
     → Option (List X)
 group_named conflict name s id =
     find (λ g. same_names (identifier conflict name s g) id) (groups_of conflict s)
-
--- ---- the same, as a predicate
 
 -- g is s without some of its members
 abbrev pub IsSublist : {X : Type 0} → List X → List X → Type 0

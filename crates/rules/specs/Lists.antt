@@ -3,7 +3,6 @@ use Rattle.std.specs.Prelude.{Bool, not, List, [], ◌∷◌, filter, Contains, 
 use Rattle.std.specs.declared.cmp.Ordering.{Ordering}
 use Rattle.std.specs.Ordering.{is_lt}
 
--- no member is repeated
 abbrev pub HasNoRepeats : {X : Type 0} → List X → Type 0
 HasNoRepeats [] = Unit {0}
 HasNoRepeats (x ∷ xs) = (Contains xs x → ⊥) × HasNoRepeats xs
@@ -18,7 +17,6 @@ abbrev pub insert_by : {X : Type 0} → (X → X → Ordering) → X → List X 
 insert_by cmp x [] = x ∷ []
 insert_by cmp x (y ∷ ys) = if is_lt (cmp x y) then x ∷ y ∷ ys else y ∷ insert_by cmp x ys
 
--- the whole list in order
 abbrev pub sort_by : {X : Type 0} → (X → X → Ordering) → List X → List X
 sort_by cmp [] = []
 sort_by cmp (x ∷ xs) = insert_by cmp x (sort_by cmp xs)

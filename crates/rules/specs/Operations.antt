@@ -10,11 +10,9 @@ use Rattle.rules.specs.declared.history.Op.{Op}
 use Rattle.rules.specs.Bodies.{is_change_body, is_drop_body, object_of_body}
 use Rattle.rules.specs.Lists.{HasNoRepeats, sort_by}
 
--- an operation's name
 abbrev pub name_of : Op → Name
 name_of op = op.name
 
--- operations are ordered by their names
 abbrev pub by_name : Op → Op → Ordering
 by_name = on name_of name_cmp
 
@@ -26,33 +24,23 @@ object_of op = object_of_body op.name op.body
 abbrev pub is_on : Name → Op → Bool
 is_on object op = same_name (object_of op) object
 
--- the operation changes the object
 abbrev pub is_change_on : Name → Op → Bool
 is_change_on object op = is_change_body op.body && is_on object op
 
--- the operation creates the object
 abbrev pub is_creation_of : Name → Op → Bool
 is_creation_of object op = not (is_change_body op.body) && same_name op.name object
 
--- ---- histories
-
--- the operation of a name
 abbrev pub operation : List Op → Name → Option Op
 operation h name = find (λ op. same_name op.name name) h
 
--- the creation of an object
 abbrev pub creation_of : List Op → Name → Option Op
 creation_of h object = find (is_creation_of object) h
-
--- no two operations share a name
-abbrev pub HasDistinctNames : List Op → Type 0
-HasDistinctNames h = (a b : Op) → Contains h a → Contains h b → a.name ≡ b.name → a ≡ b
 
 -- A history, listed in any order. Its vectors count only operations of the history, of the own site
 -- exactly the earlier ones, and with each operation everything that this operation counts.
 pub record IsHistory (h : List Op) : Type 0 where
   pub once : HasNoRepeats h
-  pub distinct : HasDistinctNames h
+  pub distinct : (a b : Op) → Contains h a → Contains h b → a.name ≡ b.name → a ≡ b
   pub vector : (o : Op) → Contains h o → is_vector o.seen ≡ true
   pub own : (o : Op) → Contains h o → count_of o.seen o.name.0 + 1 ≡ o.name.1
   pub present : (o : Op) (n : Name) → Contains h o → 1 ≤ n.1 → IsTrue (counts o.seen n)
@@ -60,13 +48,10 @@ pub record IsHistory (h : List Op) : Type 0 where
   pub closed : (a b : Op) (n : Name) → Contains h a → Contains h b → IsTrue (counts b.seen a.name)
       → IsTrue (counts a.seen n) → IsTrue (counts b.seen n)
 
--- ---- causal order
-
--- the test by one count: on a history it is causal order
+-- on a history it is causal order
 abbrev pub before : Op → Op → Bool
 before a b = counts b.seen a.name
 
--- neither is before the other
 abbrev pub concurrent : Op → Op → Bool
 concurrent a b = not (before a b) && not (before b a)
 
@@ -76,8 +61,6 @@ IsCausallyOrdered [] = Unit {0}
 IsCausallyOrdered (x ∷ xs) = ((y : Op) → Contains xs y → IsTrue (not (before y x)))
     × IsCausallyOrdered xs
 
--- ---- one object
-
 -- all changes of an object, in order of name
 unfoldable pub changes_on : List Op → Name → List Op
 changes_on h object = sort_by by_name (filter (is_change_on object) h)
@@ -86,6 +69,5 @@ changes_on h object = sort_by by_name (filter (is_change_on object) h)
 unfoldable pub known : List Op → Op → List Op
 known h b = filter (λ a. before a b) (changes_on h (object_of b))
 
--- there is a drop among the changes
 abbrev pub holds_drop : List Op → Bool
 holds_drop changes = list_any (λ op. is_drop_body op.body) changes

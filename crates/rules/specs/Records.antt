@@ -20,27 +20,18 @@ use Rattle.rules.specs.Admission.{Condition, first_that_applies, causal_conditio
 use Rattle.rules.specs.Conflicts.{base, has_object, members}
 use Rattle.rules.specs.Versions.{groups, keys_of}
 
--- ---- the parts of a record
-
--- is the entry a join
 abbrev pub is_join : Entry → Bool
 is_join (Join site) = true
-is_join (Operation op) = false
-is_join (Next count) = false
+is_join _ = false
 
--- the operation of an entry, where it is one
 abbrev pub operation_in : Entry → Option Op
-operation_in (Join site) = None
 operation_in (Operation op) = Some op
-operation_in (Next count) = None
+operation_in _ = None
 
--- does the entry end the record
 abbrev pub is_end : Entry → Bool
-is_end (Join site) = false
-is_end (Operation op) = false
 is_end (Next count) = true
+is_end _ = false
 
--- has the record ended
 abbrev pub has_ended : List Entry → Bool
 has_ended r = list_any is_end r
 
@@ -48,20 +39,12 @@ has_ended r = list_any is_end r
 abbrev pub sites : List Entry → ℕ
 sites r = count_by is_join r
 
--- its operations, in order
 abbrev pub operations : List Entry → List Op
 operations r = filter_map operation_in r
 
 -- its creations, in order: one for each object
 abbrev pub objects : List Entry → List Op
 objects r = filter (λ op. not (is_change_body op.body)) (operations r)
-
--- ---- what it admits next
-
--- the conditions on a join
-abbrev pub join_conditions : LimitValues → List Entry → List Condition
-join_conditions b r = (nat_le b.joins (sites r), RoomFull)
-    ∷ (nat_le b.entries (length r), RecordFull) ∷ []
 
 -- the conditions on the end of a record
 abbrev pub next_conditions : LimitValues → List Entry → List Condition
@@ -76,7 +59,7 @@ order_conditions b r op = (nat_le b.entries (length r), RecordFull)
 abbrev pub creation_conditions : LimitValues → List Entry → List Condition
 creation_conditions b r = (nat_le b.objects (length (objects r)), TooManyObjects) ∷ []
 
--- it is a put, and with it these changes have more keys than the limit
+-- a put with which these changes have more keys than the limit
 abbrev pub has_too_many_keys : LimitValues → List Op → Op → Bool
 has_too_many_keys b changes op =
     is_put_body op.body && nat_lt b.keys (length (keys_of (changes ++ op ∷ [])))
@@ -105,7 +88,8 @@ body_conditions b r op =
 
 -- the conditions on an entry of a record that has not ended, in order
 abbrev pub open_conditions : LimitValues → List Entry → Entry → List Condition
-open_conditions b r (Join site) = join_conditions b r
+open_conditions b r (Join site) =
+    (nat_le b.joins (sites r), RoomFull) ∷ (nat_le b.entries (length r), RecordFull) ∷ []
 open_conditions b r (Operation op) = order_conditions b r op ++ body_conditions b r op
 open_conditions b r (Next count) = next_conditions b r
 
@@ -117,27 +101,24 @@ end_condition r = (has_ended r, Renewed)
 abbrev pub conditions : LimitValues → List Entry → Entry → List Condition
 conditions b r entry = end_condition r ∷ open_conditions b r entry
 
--- why this entry may not come next, if it may not; its site has joined and its vector is in range
+-- why this entry may not come next, where it is placed
 unfoldable pub refusal : LimitValues → List Entry → Entry → Option Refusal
 refusal b r entry = first_that_applies (conditions b r entry)
 
--- a join is of the next site; an operation's site has joined, and its vector is in range; the end
--- names no more entries than a record may have
+-- a join is of the next site, an operation of one that has joined; its vector is in range
 abbrev pub is_placed : List Entry → Entry → Bool
 is_placed r (Join site) = site == sites r + 1
 is_placed r (Operation op) = nat_le 1 op.name.0 && nat_le op.name.0 (sites r) && is_vector op.seen
 is_placed r (Next count) = nat_le count MAX_ENTRIES
 
--- the entry may come next
 abbrev pub admits : LimitValues → List Entry → Entry → Bool
 admits b r entry = is_placed r entry && is_none (refusal b r entry)
 
--- each of the later entries is admitted by all that come before it
-abbrev pub IsLegalAfter : LimitValues → List Entry → List Entry → Type 0
-IsLegalAfter b r [] = Unit {0}
-IsLegalAfter b r (entry ∷ later) = (admits b r entry ≡ true)
-    × IsLegalAfter b (r ++ entry ∷ []) later
+-- each of the later entries passes, given all before it
+abbrev pub EachAfter : (List Entry → Entry → Bool) → List Entry → List Entry → Type 0
+EachAfter passes before [] = Unit {0}
+EachAfter passes before (entry ∷ later) =
+    (passes before entry ≡ true) × EachAfter passes (before ++ entry ∷ []) later
 
--- a legal record: each entry is admitted by those before it
 abbrev pub IsLegal : LimitValues → List Entry → Type 0
-IsLegal b r = IsLegalAfter b [] r
+IsLegal b r = EachAfter (admits b) [] r

@@ -10,55 +10,38 @@ use Rattle.rules.specs.declared.refusal.Refusal.TheVariants.{TooManyVersions, To
 use Rattle.rules.specs.declared.refusal.Refusal.TheVariants.{TooFar, Gone, NoSuchSite, SiteInUse}
 use Rattle.rules.specs.declared.refusal.Refusal.TheVariants.{NotServed, Renewed}
 
+-- a refusal's number and its word
+abbrev pub code_and_word : Refusal → ℕ × List ℕ
+code_and_word BadMessage = (1, codes "bad-message")
+code_and_word NotJoined = (2, codes "not-joined")
+code_and_word AlreadyJoined = (3, codes "already-joined")
+code_and_word NoSuchRoom = (4, codes "no-such-room")
+code_and_word RoomFull = (5, codes "room-full")
+code_and_word RecordFull = (6, codes "record-full")
+code_and_word WrongSeq = (7, codes "wrong-seq")
+code_and_word OwnCount = (8, codes "own-count")
+code_and_word Ahead = (9, codes "ahead")
+code_and_word NotClosed = (10, codes "not-closed")
+code_and_word NoSuchObject = (11, codes "no-such-object")
+code_and_word NoSuchVersion = (12, codes "no-such-version")
+code_and_word ObjectFull = (13, codes "object-full")
+code_and_word TooManyKeys = (14, codes "too-many-keys")
+code_and_word TooManyVersions = (15, codes "too-many-versions")
+code_and_word TooManyObjects = (16, codes "too-many-objects")
+code_and_word TooFar = (17, codes "too-far")
+code_and_word Gone = (18, codes "gone")
+code_and_word NoSuchSite = (19, codes "no-such-site")
+code_and_word SiteInUse = (20, codes "site-in-use")
+code_and_word NotServed = (21, codes "not-served")
+code_and_word Renewed = (22, codes "renewed")
+
 abbrev pub code_of : Refusal → ℕ
-code_of BadMessage = 1
-code_of NotJoined = 2
-code_of AlreadyJoined = 3
-code_of NoSuchRoom = 4
-code_of RoomFull = 5
-code_of RecordFull = 6
-code_of WrongSeq = 7
-code_of OwnCount = 8
-code_of Ahead = 9
-code_of NotClosed = 10
-code_of NoSuchObject = 11
-code_of NoSuchVersion = 12
-code_of ObjectFull = 13
-code_of TooManyKeys = 14
-code_of TooManyVersions = 15
-code_of TooManyObjects = 16
-code_of TooFar = 17
-code_of Gone = 18
-code_of NoSuchSite = 19
-code_of SiteInUse = 20
-code_of NotServed = 21
-code_of Renewed = 22
+code_of refusal = (code_and_word refusal).0
 
 abbrev pub word_of : Refusal → List ℕ
-word_of BadMessage = codes "bad-message"
-word_of NotJoined = codes "not-joined"
-word_of AlreadyJoined = codes "already-joined"
-word_of NoSuchRoom = codes "no-such-room"
-word_of RoomFull = codes "room-full"
-word_of RecordFull = codes "record-full"
-word_of WrongSeq = codes "wrong-seq"
-word_of OwnCount = codes "own-count"
-word_of Ahead = codes "ahead"
-word_of NotClosed = codes "not-closed"
-word_of NoSuchObject = codes "no-such-object"
-word_of NoSuchVersion = codes "no-such-version"
-word_of ObjectFull = codes "object-full"
-word_of TooManyKeys = codes "too-many-keys"
-word_of TooManyVersions = codes "too-many-versions"
-word_of TooManyObjects = codes "too-many-objects"
-word_of TooFar = codes "too-far"
-word_of Gone = codes "gone"
-word_of NoSuchSite = codes "no-such-site"
-word_of SiteInUse = codes "site-in-use"
-word_of NotServed = codes "not-served"
-word_of Renewed = codes "renewed"
+word_of refusal = (code_and_word refusal).1
 
--- does a session refuse so by itself, without asking a room
+-- a session refuses so by itself, without asking a room
 abbrev pub is_by_session : Refusal → Bool
 is_by_session BadMessage = true
 is_by_session NotJoined = true
@@ -67,7 +50,7 @@ is_by_session NoSuchRoom = true
 is_by_session NotServed = true
 is_by_session _ = false
 
--- is only a back refused so
+-- only a back is refused so
 abbrev pub is_of_back : Refusal → Bool
 is_of_back NoSuchSite = true
 is_of_back SiteInUse = true

@@ -1,5 +1,4 @@
--- The versions of an object (the idea is that of Sun and Chen, ACM TOCHI 9(1), 2002): one for each
--- group of its changes.
+-- The versions of an object, one for each group of its changes (Sun and Chen, ACM TOCHI 9(1), 2002).
 use Rattle.std.specs.Prelude.{Bool, not, ◌&&◌, ◌++◌, List, [], Option, Some, None, map, filter_map}
 use Rattle.std.specs.Prelude.{flat_map, find, is_some, option_map, bytes_eq, if◌then◌else◌}
 use Rattle.std.specs.List.{list_any}
@@ -21,14 +20,10 @@ use Rattle.rules.specs.Operations.{before, creation_of, holds_drop, name_of, cha
 use Rattle.rules.specs.Groups.{groups_of, identifier}
 use Rattle.rules.specs.Conflicts.{conflict}
 
--- ---- the value of a key in a group
-
--- the operation gives the key a value
 abbrev pub gives : Bytes → Op → Bool
 gives key op = is_some (value_of_body key op.body)
 
--- An operation of g decides a key: it gives the key a value, and no later operation of g does. On a
--- history one count tells causal order.
+-- the operation gives the key a value, and no later operation of g does
 abbrev pub decides : Bytes → List Op → Op → Bool
 decides key g op = gives key op && not (list_any (λ later. gives key later && before op later) g)
 
@@ -41,13 +36,9 @@ value_by key initial (Some op) = value_of_body key op.body
 abbrev pub value_of_key : List Attr → List Op → Bytes → Option Value
 value_of_key initial g key = value_by key initial (find (decides key g) g)
 
--- ---- the attributes of a group
-
--- the keys that puts give values, each once
 abbrev pub keys_of : List Op → List Bytes
 keys_of g = each_once bytes_eq (flat_map (λ op. keys_of_body op.body) g)
 
--- attributes are ordered by their keys
 abbrev pub key_cmp : Attr → Attr → Ordering
 key_cmp = on (λ attr. attr.0) (slice_cmp nat_cmp)
 
@@ -63,18 +54,13 @@ abbrev pub initial_of : Option Op → List Attr
 initial_of None = []
 initial_of (Some op) = initial_in op.body
 
--- ---- the versions of an object
-
--- the groups of all changes of an object
 unfoldable pub groups : List Op → Name → List (List Op)
 groups h object = groups_of (conflict h) (changes_on h object)
 
--- what is shown of a group on an object that was created with these attributes: a group that holds
--- a drop is gone
+-- what is shown of a group on an object created with these attributes: with a drop it is gone
 unfoldable pub shown_of : List Attr → List Op → Shown
 shown_of initial g = if holds_drop g then Gone else Attrs (attributes initial g)
 
--- a group as it is shown: its identifier, and its attributes or that it is gone
 unfoldable pub version_of : List Op → Name → List Op → Version
 version_of h object g =
     record {
@@ -82,10 +68,8 @@ version_of h object g =
       shown = shown_of (initial_of (creation_of h object)) g;
     }
 
--- versions are ordered by their identifiers
 abbrev pub by_id : Version → Version → Ordering
 by_id = on (λ version. version.id) id_cmp
 
--- an object's versions: each of its groups, in order of identifier
 unfoldable pub versions : List Op → Name → List Version
 versions h object = sort_by by_id (map (version_of h object) (groups h object))

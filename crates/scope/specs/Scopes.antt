@@ -1,40 +1,31 @@
 -- Which rooms a session may enter.
-use Rattle.std.specs.Prelude.{◌≡◌, Bool, true, false, ℕ, [], ◌∷◌, ◌&&◌, ◌==◌}
+use Rattle.std.specs.Prelude.{◌≡◌, Bool, true, false, ℕ, [], ◌∷◌, ◌&&◌, ◌==◌, if◌then◌else◌}
 use Rattle.std.specs.List.{before_first}
 use Rattle.base_types.specs.Texts.{Bytes}
 use Rattle.base_types.specs.RoomNames.{is_in_chain, is_first_name}
 use Rattle.scope.specs.declared.scope.Scope.{Scope}
 use Rattle.scope.specs.declared.scope.Scope.TheVariants.{Anywhere, Only, Nowhere}
 
--- the session may enter the room of this name
 abbrev pub allows : Scope → Bytes → Bool
 allows Anywhere name = true
 allows (Only first) name = is_in_chain first name
 allows Nowhere name = false
 
--- the rooms of this chain, if it is the name of a chain's first room
-abbrev pub scope_if : Bool → Bytes → Scope
-scope_if true name = Only name
-scope_if false name = Nowhere
-
 -- `/NAME` is the rooms of the chain NAME, and any other path is none
 abbrev pub scope_of_path : Bytes → Scope
 scope_of_path [] = Nowhere
-scope_of_path (first ∷ name) = scope_if ((first == 47) && is_first_name name) name
+scope_of_path (first ∷ name) = if first == 47 && is_first_name name then Only name else Nowhere
 
--- the byte begins a query
 abbrev pub is_query_mark : ℕ → Bool
 is_query_mark byte = byte == 63
 
--- nothing, or a query
 abbrev pub IsQuery : Bytes → Type 0
 IsQuery [] = Unit {0}
 IsQuery (first ∷ rest) = is_query_mark first ≡ true
 
--- the path of a request's target: what stands before its query
 abbrev pub path_of : Bytes → Bytes
 path_of target = before_first is_query_mark target
 
--- The scope by the target of a request. Nothing is decoded.
+-- by the target of a request; nothing is decoded
 abbrev pub scope_of_target : Bytes → Scope
 scope_of_target target = scope_of_path (path_of target)

@@ -5,6 +5,7 @@ use Rattle.std.specs.List.{position_or_len}
 use Rattle.std.proofs.lemmas.Bool.Decides.{nat_tests}
 use Rattle.base_types.specs.Texts.{Bytes}
 use Rattle.rules.specs.declared.history.Entry.{Entry}
+use Rattle.rules.specs.declared.limits.LimitValues.{LimitValues}
 use Rattle.wire.specs.declared.reply.Reply.{Reply}
 use Rattle.wire.specs.declared.reply.Reply.TheVariants.{Renewed}
 use Rattle.keeper.specs.Chains.{IsLater}
@@ -20,11 +21,15 @@ use Rattle.room_lock.specs.InOrder.{IsOpeningFor}
 use Rattle.room_lock.specs.Passes.{PassView, PrefixView}
 use Rattle.room_lock.specs.steps.Views.{InUseView}
 use Rattle.room_lock.specs.Rooms.{IsOffered, IsOnDemand, RoomsView, Serves}
-use Rattle.room_lock.specs.Calls.{IsBack, IsJoin, IsRefusalOver}
-use Rattle.sessions.specs.Sessions.{HostView, IsPermitted, SessionTurn}
+use Rattle.room_lock.specs.Calls.{IsBack, IsBackRefusalOver, IsJoin, IsRefusalOver}
+use Rattle.sessions.specs.Sessions.{HostView, SessionTurn}
 use Rattle.sessions.specs.steps.Entrances.{IsAfter}
-use Rattle.sessions.specs.Entering.{IsBackRefusal, IsEntering, IsPermittedJoin, MayEnter}
+use Rattle.sessions.specs.Entering.{IsEntering, IsPermittedJoin, MayEnter}
 use Rattle.sessions.specs.Turns.{IsAnswer, IsAnswerInside, IsAnswerOutside}
+
+-- the room refuses a coming back as a site, as one in use or as one that has not joined
+abbrev pub IsBackRefusal : LimitValues → ℕ → List Entry → Reply → Type 0
+IsBackRefusal limits site r reply = (in_use : Bool) × IsBackRefusalOver limits r site in_use reply
 
 -- the place of a name is one of the places
 found_within : (n len k : ℕ) (b : Bool) → nat_lt n len ≡ b → cond b (Some n) None ≡ Some k → k < len
@@ -79,7 +84,7 @@ module _ (rooms : RoomsView) (opening : OpeningView) (Enters : PassView → Repl
       → MayEnter turn.old.scope rooms name → IsOpeningFor rooms name opening → IsEntrance went → IsAfter went turn.new.pass turn.reported turn.reply
       → IsEntering Enters Refuses denied rooms name turn
   told_after denied name turn (Entered pass it) may at is after =
-      inl (pass, subst (λ r. Enters pass r) (sym after.0) is.entered.0, may.0, is.entered.1 ∙ at.name_is, subst (IsOpeningFor rooms name) (sym is.pass_opening) at, after.1, after.2)
+      inl (pass, subst (λ r. Enters pass r) (sym after.0) is.entered.0, may.0, is.entered.1 ∙ at.name_is, subst (IsOpeningFor rooms name) (sym is.pass_opening) at, (after.1, after.2))
   told_after denied name turn (Refused prefix it) may at is after =
       inr (inl (record {
         known = λ there. (prefix, subst (λ r. Refuses prefix.entries r) (sym after.0) is.refused, subst (IsOpeningFor rooms name) (sym is.refusal_opening) at, after.1);
@@ -93,7 +98,7 @@ module _ (rooms : RoomsView) (opening : OpeningView) (Enters : PassView → Repl
         same = after.2;
       }))
   told_after denied name turn NoRoom may at is after =
-      inr (inr (inl (may.0, inl (on_demand turn.old.scope name may at (is.no_room refl)), after.0, after.1, after.2)))
+      inr (inr (inl (may.0, inl (on_demand turn.old.scope name may at (is.no_room refl)), after)))
 
 none_of : {A : Type 0} (o : Option A) → is_some o ≡ false → o ≡ None
 none_of None is = refl
@@ -111,7 +116,7 @@ entered_permitted host opening NoRoom may is at = tt
 
 -- a permit that was given
 pub given_permit : {Permit : Type 0} (permits : Permit → ℕ → Type 0) (number : ℕ) (found : Option Permit) → is_some found ≡ true
-    → IfSome found (λ permit. permits permit number) → IsPermitted permits number
+    → IfSome found (λ permit. permits permit number) → (permit : Permit) × permits permit number
 given_permit permits number None is holds = absurd (cc is)
 given_permit permits number (Some permit) is holds = (permit, holds)
 
@@ -136,4 +141,4 @@ module _ (host : HostView) (name : Bytes) (turn : SessionTurn) (none : is_some t
   -- the chain of the room goes on elsewhere
   pub back_sent_on : (site : ℕ) (later : Bytes) → IsLater name later → allows turn.old.scope name ≡ true → turn.reply ≡ Renewed 0 later → turn.reported ≡ None → turn.new.pass ≡ turn.old.pass
       → IsAnswer host (Back name site) turn
-  back_sent_on site later is may reply reported same = outside (Back name site) (inr (inr (inr (later, is, reply, may, reported, same ∙ none_of turn.old.pass none))))
+  back_sent_on site later is may reply reported same = outside (Back name site) (inr (inr (inr (later, is, may, (reply, reported, same ∙ none_of turn.old.pass none)))))

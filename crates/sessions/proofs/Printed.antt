@@ -1,8 +1,8 @@
 -- Lines that are printed one after the other.
-use Rattle.std.proofs.Common.{◌≡◌, ◌+◌, ◌<◌, ℕ, zero, suc, List, [], ◌∷◌, ◌++◌, length, get_or, map, take, append-nil, append_assoc, ap, refl, sym, ◌∙◌, arith}
+use Rattle.std.proofs.Common.{◌≡◌, zero, suc, List, [], ◌∷◌, ◌++◌, map, append-nil, ap, refl, ◌∙◌, arith}
 use Rattle.std.specs.Prelude.{All}
 use Rattle.std.specs.Arc.{arc_value}
-use Rattle.std.proofs.lemmas.List.{map-append, take_more}
+use Rattle.std.specs.List.{flat_map}
 use Rattle.std.proofs.lemmas.List.Concat.{flat_map-append}
 use Rattle.rules.specs.declared.history.Entry.{Entry}
 use Rattle.rules.specs.declared.limits.LimitValues.{LimitValues}
@@ -11,15 +11,13 @@ use Rattle.record_file.specs.RecordText.{entry_line, record_text}
 use Rattle.room_lock.specs.declared.closing.RoomRecord.{RoomRecord}
 use Rattle.room_lock.specs.Closing.{IsClosed}
 use Rattle.room_lock.specs.Passes.{PartView}
-use Rattle.sessions.specs.Records.{NamedRecord, all_lines, record_lines}
+use Rattle.sessions.specs.Records.{NamedRecord, record_lines}
 
 pub record_text_more : (r : List Entry) (e : Entry) → record_text (r ++ e ∷ []) ≡ record_text r ++ entry_line e
 record_text_more r e = flat_map-append entry_line r (e ∷ []) ∙ ap (λ l. record_text r ++ l) (append-nil (entry_line e))
 
-pub all_lines_more : (rooms : List NamedRecord) (room : NamedRecord) → all_lines (rooms ++ room ∷ []) ≡ all_lines rooms ++ record_lines room
-all_lines_more [] room = append-nil (record_lines room)
-all_lines_more (x ∷ rooms) room =
-    ap (λ l. record_lines x ++ l) (all_lines_more rooms room) ∙ sym (append_assoc (record_lines x) (all_lines rooms) (record_lines room))
+pub all_lines_more : (rooms : List NamedRecord) (room : NamedRecord) → flat_map record_lines (rooms ++ room ∷ []) ≡ flat_map record_lines rooms ++ record_lines room
+all_lines_more rooms room = flat_map-append record_lines rooms (room ∷ []) ∙ ap (λ l. flat_map record_lines rooms ++ l) (append-nil (record_lines room))
 
 module _ {P : Type 0} where
   -- a closed room's name and record

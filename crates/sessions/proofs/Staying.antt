@@ -11,14 +11,16 @@ use Rattle.wire.specs.declared.note.NoteRequest.{NoteRequest}
 use Rattle.wire_reader.specs.steps.Reads.{request_read, note_request_read}
 use Rattle.scope.specs.Scopes.{allows}
 use Rattle.scope.specs.declared.scope.Scope.{Scope}
+use Rattle.openings.specs.Openings.{OpeningView}
 use Rattle.room_lock.specs.InOrder.{IsOpeningFor}
 use Rattle.room_lock.specs.Passes.{PassView, PrefixView, prefix_of}
-use Rattle.room_lock.specs.Rooms.{RoomsView}
+use Rattle.room_lock.specs.Rooms.{IsOnDemand, RoomsView}
 use Rattle.sessions.specs.Sessions.{HostView, SessionTurn}
 use Rattle.rules.specs.declared.refusal.Refusal.TheVariants.{BadMessage, NotJoined}
-use Rattle.room_lock.specs.Calls.{IsBack, IsRefusalOver}
-use Rattle.sessions.specs.Entering.{IsBackRefusal, IsEntering, IsJoinBy, IsLetIn, IsPermittedJoin, IsRefused, IsSentOn, IsTurnedAway, MayBeShut, MayEnter}
-use Rattle.sessions.specs.Turns.{IsAnswerInside, IsAnswerOutside, IsCallBy, IsNotesBy, IsTurn}
+use Rattle.room_lock.specs.Calls.{IsBack, IsCall, IsNotesCall, IsRefusalOver}
+use Rattle.sessions.specs.Entering.{IsEntering, HasPass, IsJoinBy, IsLetIn, IsPermittedJoin, IsRefused, IsSentOn, IsTurnedAway, MayEnter}
+use Rattle.sessions.specs.Turns.{IsAnswerInside, IsAnswerOutside, IsTurn}
+use Rattle.sessions.proofs.Entering.{IsBackRefusal}
 
 -- the pass is of the named room, which the scope allows
 abbrev pub IsInNamed : Scope → RoomsView → Bytes → PassView → Type 0
@@ -28,17 +30,17 @@ module _ (rooms : RoomsView) (name : Bytes) (Enters : PassView → Reply → Typ
   -- who is let in is in the named room
   pub let_in : (pass : PassView) → IsEntering Enters Refuses denied rooms name turn → turn.new.pass ≡ Some pass → IsInNamed turn.old.scope rooms name pass
   let_in pass (inl is) new =
-      let same : pass ≡ is.0 = cc (new, is.6) in
+      let same : pass ≡ is.0 = cc (new, is.5.1) in
       subst (IsInNamed turn.old.scope rooms name) (sym same) (is.2, is.3, is.4)
   let_in pass (inr (inl away)) new = absurd (cc (new, away.same))
-  let_in pass (inr (inr (inl shut))) new = absurd (cc (new, shut.4))
-  let_in pass (inr (inr (inr sent))) new = absurd (cc (new, sent.5))
+  let_in pass (inr (inr (inl shut))) new = absurd (cc (new, shut.2.2))
+  let_in pass (inr (inr (inr sent))) new = absurd (cc (new, sent.3.2))
 
   -- what is reported is of the named room
   pub told_of : (reported : PrefixView) → IsEntering Enters Refuses denied rooms name turn → turn.reported ≡ Some reported
       → MayEnter turn.old.scope rooms name → IsOpeningFor rooms name reported.opening
   told_of reported (inl is) told there =
-      let same : reported ≡ prefix_of is.0.part = cc (told, is.5) in
+      let same : reported ≡ prefix_of is.0.part = cc (told, is.5.0) in
       let P : PrefixView → Type 0 = λ p. IsOpeningFor rooms name p.opening in
       subst P (sym same) is.4
   told_of reported (inr (inl away)) told there =
@@ -46,8 +48,8 @@ module _ (rooms : RoomsView) (name : Bytes) (Enters : PassView → Reply → Typ
       let same : reported ≡ is.0 = cc (told, is.3) in
       let P : PrefixView → Type 0 = λ p. IsOpeningFor rooms name p.opening in
       subst P (sym same) is.2
-  told_of reported (inr (inr (inl shut))) told there = absurd (cc (told, shut.3))
-  told_of reported (inr (inr (inr sent))) told there = absurd (cc (told, sent.4))
+  told_of reported (inr (inr (inl shut))) told there = absurd (cc (told, shut.2.1))
+  told_of reported (inr (inr (inr sent))) told there = absurd (cc (told, sent.3.1))
 
 -- where no room is denied, a room that is open from the start is served
 pub served : (host : HostView) (name : Bytes) (turn : SessionTurn) → ((number : ℕ) → ¬ (host.denied number)) → Contains host.rooms.names name → IsJoinBy host name turn
@@ -57,9 +59,16 @@ served host name turn never first (inr (inl is)) = inr (inl is)
 served host name turn never first (inr (inr (inr sent))) = inr (inr sent)
 served host name turn never first (inr (inr (inl shut))) = absurd (go shut.1)
   where
-    go : MayBeShut host.denied host.rooms name → ⊥
+    go : IsOnDemand host.rooms name ⊎ ((opening : OpeningView) × IsOpeningFor host.rooms name opening × host.denied opening.number) → ⊥
     go (inl demand) = demand.0 first
     go (inr denies) = never denies.0.number denies.2
+
+-- a call by the session's pass, and one about notes
+abbrev IsCallBy : LimitValues → PassView → Request → SessionTurn → Type 0
+IsCallBy limits was request turn = (now : PassView) × IsCall limits was now request turn.reply × HasPass now turn
+
+abbrev IsNotesBy : LimitValues → PassView → NoteRequest → SessionTurn → Type 0
+IsNotesBy limits was request turn = (now : PassView) × IsNotesCall limits was now request turn.reply × HasPass now turn
 
 -- the room of one pass is that of another
 abbrev pub IsSameRoom : PassView → PassView → Type 0
@@ -76,13 +85,13 @@ module _ (limits : LimitValues) (turn : SessionTurn) (was : PassView) (before : 
     -- a call keeps the room
     call_stays : (request : Request) → IsCallBy limits was request turn → IsSameRoom was now
     call_stays request is =
-        let same : now ≡ is.0 = cc (after, is.3) in
-        subst (IsSameRoom was) (sym same) (is.1.1.room, is.1.1.opening)
+        let same : now ≡ is.0 = cc (after, is.2.1) in
+        subst (IsSameRoom was) (sym same) (is.1.1.room, ap (λ p. p.opening) is.1.1.part_is)
 
     -- so does a request about notes
     notes_stay : (request : NoteRequest) → IsNotesBy limits was request turn → IsSameRoom was now
     notes_stay request is =
-        let same : now ≡ is.0 = cc (after, is.3) in
+        let same : now ≡ is.0 = cc (after, is.2.1) in
         subst (IsSameRoom was) (sym same) (ap (λ p. p.room) is.1.3.now_is, ap (λ p. p.part.opening) is.1.3.now_is)
 
     inside_stays : (request : Request) → IsAnswerInside limits was request turn → IsSameRoom was now
@@ -98,12 +107,12 @@ module _ (limits : LimitValues) (turn : SessionTurn) (was : PassView) (before : 
     -- a call reports on the room of the session
     call_told : (request : Request) → IsCallBy limits was request turn → reported.opening ≡ was.part.opening
     call_told request is =
-        let same : reported ≡ prefix_of is.0.part = cc (told, is.2) in
-        ap (λ p. p.opening) same ∙ is.1.1.opening
+        let same : reported ≡ prefix_of is.0.part = cc (told, is.2.0) in
+        ap (λ p. p.opening) same ∙ ap (λ p. p.opening) is.1.1.part_is
 
     notes_told : (request : NoteRequest) → IsNotesBy limits was request turn → reported.opening ≡ was.part.opening
     notes_told request is =
-        let same : reported ≡ prefix_of is.0.part = cc (told, is.2) in
+        let same : reported ≡ prefix_of is.0.part = cc (told, is.2.0) in
         ap (λ p. p.opening) same ∙ ap (λ p. p.part.opening) is.1.3.now_is
 
     inside_told : (request : Request) → IsAnswerInside limits was request turn → reported.opening ≡ was.part.opening

@@ -1,6 +1,7 @@
 -- The records of closed rooms, as they are printed.
 use Rattle.std.specs.Prelude.{◌++◌, ◌∷◌, [], ℕ, All, List, Option, codes, length, map}
 use Rattle.std.specs.Fmt.{decimal}
+use Rattle.std.specs.List.{flat_map}
 use Rattle.std.specs.Io.KnownBytes.{Appends}
 use Rattle.base_types.specs.Texts.{Bytes}
 use Rattle.rules.specs.declared.history.Entry.{Entry}
@@ -9,7 +10,6 @@ use Rattle.rules.specs.Records.{IsLegal}
 use Rattle.room_lock.specs.Rooms.{IsListOf, RoomsView}
 use Rattle.record_file.specs.RecordText.{record_text}
 
--- a room's name and its record
 pub record NamedRecord : Type 0 where
   pub name : Bytes
   pub entries : List Entry
@@ -20,16 +20,10 @@ record_lines room =
     (codes "room " ++ room.name ++ (32 ∷ decimal (length room.entries)) ++ 10 ∷ [])
     ++ record_text room.entries
 
--- the lines of all rooms, in order
-abbrev pub all_lines : List NamedRecord → List ℕ
-all_lines [] = []
-all_lines (room ∷ rooms) = record_lines room ++ all_lines rooms
-
--- A writer got the lines of the records of all rooms of the start, in order, and then of others. Each
--- record is legal.
+-- a writer got the legal records of all rooms of the start, in order, and then of others
 pub record PrintsRecords
     (limits : LimitValues) (rooms : RoomsView) (before after : Option (List ℕ)) : Type 0 where
   pub records : List NamedRecord
   pub names_are : IsListOf rooms (map (λ room. room.name) records)
   pub legal : All (λ room. IsLegal limits room.entries) records
-  pub printed : Appends before after (all_lines records)
+  pub printed : Appends before after (flat_map record_lines records)

@@ -21,13 +21,8 @@ AsksToOpen rooms scope (Join name) = (allows scope name ≡ true) × IsOnDemand 
 AsksToOpen rooms scope (Back name site) = (allows scope name ≡ true) × IsOnDemand rooms name
 AsksToOpen rooms scope _ = ⊥
 
--- The request may be held: a session that is in a room asks to wait for an entry, or one that is in
--- no room asks for one that is opened on demand.
-abbrev pub IsWaitOf : RoomsView → SessionView → Request → Type 0
-IsWaitOf rooms session request =
-    IsWaitInRoom session.pass request
-    ⊎ ((session.pass ≡ None) × AsksToOpen rooms session.scope request)
-
--- the message may be held
+-- the message may be held: a session in a room waits, or one in no room asks to open one
 abbrev pub IsWait : RoomsView → SessionView → Bytes → Type 0
-IsWait rooms session bytes = MatchOption (request_read bytes) ⊥ (IsWaitOf rooms session)
+IsWait rooms session bytes = MatchOption (request_read bytes) ⊥
+    (λ request. IsWaitInRoom session.pass request
+    ⊎ ((session.pass ≡ None) × AsksToOpen rooms session.scope request))

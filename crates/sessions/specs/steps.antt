@@ -4,3 +4,4 @@ pub mod Replies
 pub mod Causes
 pub mod Ends
 pub mod Faults
+pub mod Confined

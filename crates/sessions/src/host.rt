@@ -1,7 +1,7 @@
 //! What all sessions of one server share.
 
 ghost use Rattle.std.specs.Prelude.{◌≡◌, IfOk};
-ghost use Rattle.sessions.specs.Sessions.{scope_for};
+ghost use Rattle.sessions.specs.steps.Confined.{scope_for};
 
 use crate::chime::Chime;
 use base_types::NoMemory;

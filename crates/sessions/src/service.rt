@@ -13,7 +13,7 @@ use wire_reader::Scratch;
 
 impl<P: RoomHistories, R: Wait, O: Observer, K: Keeper<P>> Service for Host<'_, P, R, O, K> {
     ghost use Rattle.std.specs.Prelude.{◌≡◌, None};
-    ghost use Rattle.sessions.specs.Sessions.{scope_for};
+    ghost use Rattle.sessions.specs.steps.Confined.{scope_for};
 
     ghost begins = { λ host target session.
         session ≡ record { scope = scope_for host.is_confining target; pass = None } };

@@ -67,13 +67,11 @@ end_draws_nothing r count = operations_draw (r ++ Next count ∷ []) ∙ ap draw
 -- a renewal of a record that has ended, with as many entries as its end names, follows it
 pub follows : (old new : Room) (count : ℕ) → EndsWith old.entries count → IsShortRenewal old.entries new.entries → new ≡ full_room new.entries → length new.entries ≡ count → Follows old new
 follows old new count end renewed whole counted = record {
-  followed = record {
-    before = end.before;
-    ended = end.ended ∙ ap (λ n. end.before ++ Next n ∷ []) (sym counted);
-    renewal = record {
-      legal = renewed.renewal.legal;
-      same = renewed.renewal.same ∙ ap drawn end.ended ∙ end_draws_nothing end.before count;
-    };
+  before = end.before;
+  ended = end.ended ∙ ap (λ n. end.before ++ Next n ∷ []) (sym counted);
+  renewal = record {
+    legal = renewed.renewal.legal;
+    same = renewed.renewal.same ∙ ap drawn end.ended ∙ end_draws_nothing end.before count;
   };
   whole = whole;
 }

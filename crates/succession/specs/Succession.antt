@@ -8,16 +8,11 @@ use Rattle.succession.specs.Usage.{is_roomy}
 use Rattle.succession.specs.declared.succeeding.Succession.{Succession}
 use Rattle.succession.specs.declared.succeeding.Succession.TheVariants as succession
 
--- The old record is one that goes on in the new record: it ends with the number of entries of the
--- new one, which is legal and draws what the entries before this end draw.
-pub record IsFollowed (old new : List Entry) : Type 0 where
-  pub before : List Entry
-  pub ended : old ≡ before ++ Next (length new) ∷ []
-  pub renewal : IsRenewal before new
-
--- the new room goes on where the old one has ended
+-- the old record ends with the number of entries of the new one, which draws what it drew before
 pub record Follows (old new : Room) : Type 0 where
-  pub followed : IsFollowed old.entries new.entries
+  pub before : List Entry
+  pub ended : old.entries ≡ before ++ Next (length new.entries) ∷ []
+  pub renewal : IsRenewal before new.entries
   pub whole : new ≡ full_room new.entries
 
 -- the new room draws what the room draws, and has a quarter left of each limit

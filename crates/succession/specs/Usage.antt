@@ -3,7 +3,6 @@ use Rattle.std.specs.Prelude.{ℕ, ◌*◌, Bool, ◌&&◌, nat_le, length}
 use Rattle.rules.specs.Records.{objects, sites}
 use Rattle.room_core.specs.Room.{Room}
 
--- a quarter of a limit is left
 abbrev pub has_quarter : ℕ → ℕ → Bool
 has_quarter limit used = nat_le (used * 4) (limit * 3)
 

@@ -13,29 +13,25 @@ use Rattle.wire.specs.Form.{IsTextOf}
 use Rattle.wire.specs.Replies.{adds, at_of}
 use Rattle.transcript.specs.declared.line.TranscriptLine.{TranscriptLine}
 
--- is the request a join
 abbrev pub is_join_request : Request → Bool
 is_join_request (Join room) = true
 is_join_request _ = false
 
--- does the reply let a new site in
 abbrev pub is_joined : Reply → Bool
 is_joined (Joined at site) = true
 is_joined _ = false
 
--- does the reply let a site in again
 abbrev pub is_returned : Reply → Bool
 is_returned (Returned at site seq) = true
 is_returned _ = false
 
--- May a room give this reply to a site that is in it? It lets no site in again, and is no refusal
--- by a session or of a back.
+-- a room may give this reply to a site that is in it
 abbrev pub is_answer : Reply → Bool
 is_answer (Returned at site seq) = false
 is_answer (No at refusal) = not (is_by_session refusal) && not (is_of_back refusal)
 is_answer _ = true
 
--- may this site's request and this reply stand in one line
+-- this site's request and this reply may stand in one line
 abbrev pub go_together : ℕ → Request → Reply → Bool
 go_together site (Join room) reply = is_joined reply
 go_together site (Back room asked) reply = asked == site && is_returned reply
@@ -44,8 +40,6 @@ go_together site _ reply = is_answer reply
 -- the number of entries after the call
 abbrev pub entries_after : Reply → ℕ
 entries_after reply = if adds reply then at_of reply + 1 else at_of reply
-
--- ---- the form
 
 -- [SITE,REQUEST,REPLY], with any form of the request and of the reply
 pub record IsLineForm (d : Data) (line : TranscriptLine) : Type 0 where
@@ -62,6 +56,5 @@ pub record IsLine (line : TranscriptLine) : Type 0 where
   pub reply : IsReply line.reply
   pub together : go_together line.site line.request line.reply ≡ true
 
--- the bytes are a text of the line
 abbrev pub IsLineText : List ℕ → TranscriptLine → Type 0
 IsLineText = IsTextOf IsLineForm IsLine

@@ -4,8 +4,7 @@ use Rattle.transcript.specs.declared.line.TranscriptLine.{TranscriptLine}
 use Rattle.transcript.specs.Lines.{entries_after}
 use Rattle.wire.specs.Replies.{at_of, adds}
 
--- The two lines may stand in this order. They do not report the same entry of the record, and a
--- site continues from where its earlier line ended.
+-- they do not report the same entry, and a site continues from where its earlier line ended
 pub record IsInOrder (earlier later : TranscriptLine) : Type 0 where
   pub places : adds earlier.reply ≡ true → adds later.reply ≡ true
       → at_of earlier.reply ≢ at_of later.reply

@@ -36,13 +36,15 @@ use Rattle.wire.specs.declared.reply.Reply.TheVariants.{Objects, Entries, Left, 
 use Rattle.wire.specs.declared.note.NoteRequest.{NoteRequest}
 use Rattle.wire.specs.declared.note.NoteRequest.TheVariants as note
 
--- a JSON list of these values
 abbrev pub list_form : List Data → Data
 list_form ds = array (items_of ds)
 
--- a whole number
 abbrev pub whole_form : ℕ → Data
 whole_form n = number (unsigned n)
+
+-- a list of a word and further fields
+abbrev pub form : List ℕ → List Data → Data
+form word fields = list_form (string word ∷ fields)
 
 -- [SITE,SEQ] of a name, and [SITE,COUNT] of a vector
 abbrev pub name_form : ℕ × ℕ → Data
@@ -52,7 +54,6 @@ name_form n = list_form (whole_form n.0 ∷ whole_form n.1 ∷ [])
 abbrev pub names_form : List (ℕ × ℕ) → Data
 names_form ns = list_form (map name_form ns)
 
--- a value: a number or a text
 abbrev pub value_form : Value → Data
 value_form (Number z) = number (of_integer z)
 value_form (Text s) = string s
@@ -61,41 +62,41 @@ value_form (Text s) = string s
 abbrev pub attr_form : Attr → Data
 attr_form p = list_form (string p.0 ∷ value_form p.1 ∷ [])
 
--- attributes, in their order
 abbrev pub attrs_form : List Attr → Data
 attrs_form ps = list_form (map attr_form ps)
 
--- a value in range
+-- ---- what is in range
+
 abbrev pub IsValue : Value → Type 0
 IsValue (Number z) = FitsSigned w64 z
 IsValue (Text s) = is_value_text s ≡ true
 
--- a version identifier in range
+-- a version's identifier
 abbrev pub IsId : List (ℕ × ℕ) → Type 0
 IsId names = AllByRecursion (λ name. is_op_name name ≡ true) names × (names_rise names ≡ true)
 
--- the place that a page begins at, in range
+-- the place that a page begins at
 abbrev pub is_from : ℕ → Bool
 is_from from = nat_le from MAX_FROM
 
--- a place in the record, or a number of entries or objects, in range
+-- a place in the record, or a number of entries or objects
 abbrev pub is_at : ℕ → Bool
 is_at at = nat_le at MAX_ENTRIES
 
--- an attribute in range
 abbrev pub IsAttr : Attr → Type 0
 IsAttr p = (is_key p.0 ≡ true) × IsValue p.1
 
--- the attributes of a creation, in range
+-- the attributes of a creation
 abbrev pub AreAttrs : List Attr → Type 0
 AreAttrs attrs = AllByRecursion IsAttr attrs × (are_attrs attrs ≡ true)
 
--- the attributes of a put, in range
+-- the attributes of a put
 abbrev pub ArePairs : List Attr → Type 0
 ArePairs pairs = AllByRecursion IsAttr pairs × (are_pairs pairs ≡ true)
 
--- the word that an operation begins with, and its last fields, which follow what its author had
--- seen
+-- ---- operations and requests
+
+-- the word that an operation begins with, and the fields after what its author had seen
 abbrev pub WordAndFields : Type 0
 WordAndFields = List ℕ × List Data
 
@@ -106,14 +107,12 @@ body_form (Put object version pairs) =
     (codes "put", name_form object ∷ names_form version ∷ attrs_form pairs ∷ [])
 body_form (DropVersion object version) = (codes "drop", name_form object ∷ names_form version ∷ [])
 
--- what an operation does, in the old form: a put of one pair has its key and its value in no list.
--- All else is as it is written
+-- the old form: in a put of one pair its key and its value are in no list
 abbrev pub old_body_form : Body → WordAndFields
 old_body_form (Put object version (pair ∷ [])) =
     (codes "set", name_form object ∷ names_form version ∷ string pair.0 ∷ value_form pair.1 ∷ [])
 old_body_form body = body_form body
 
--- what an operation that is read keeps to
 abbrev pub IsBody : Body → Type 0
 IsBody (New kind attrs) = (is_kind kind ≡ true) × AreAttrs attrs
 IsBody (Put object version pairs) = (is_op_name object ≡ true) × IsId version × ArePairs pairs
@@ -121,22 +120,19 @@ IsBody (DropVersion object version) = (is_op_name object ≡ true) × IsId versi
 
 -- an operation: its name or its number, what its author had seen, and what it does
 abbrev pub operation_form : Data → Vector → WordAndFields → Data
-operation_form head seen does = list_form (string does.0 ∷ head ∷ names_form seen ∷ does.1)
+operation_form head seen does = form does.0 (head ∷ names_form seen ∷ does.1)
 
--- the form of a request, with bodies in these forms: a list of its word and its fields
+-- the form of a request, with bodies in these forms
 abbrev pub request_form_by : (Body → WordAndFields) → Request → Data
-request_form_by of_body (Join room) = list_form (string (codes "join") ∷ string room ∷ [])
-request_form_by of_body (Back room site) =
-    list_form (string (codes "back") ∷ string room ∷ whole_form site ∷ [])
+request_form_by of_body (Join room) = form (codes "join") (string room ∷ [])
+request_form_by of_body (Back room site) = form (codes "back") (string room ∷ whole_form site ∷ [])
 request_form_by of_body (Change seq seen body) = operation_form (whole_form seq) seen (of_body body)
-request_form_by of_body (Show name) = list_form (string (codes "show") ∷ name_form name ∷ [])
-request_form_by of_body (ListObjects from) =
-    list_form (string (codes "list") ∷ whole_form from ∷ [])
-request_form_by of_body (Pull from false) = list_form (string (codes "pull") ∷ whole_form from ∷ [])
-request_form_by of_body (Pull from true) = list_form (string (codes "wait") ∷ whole_form from ∷ [])
-request_form_by of_body Leave = list_form (string (codes "leave") ∷ [])
+request_form_by of_body (Show name) = form (codes "show") (name_form name ∷ [])
+request_form_by of_body (ListObjects from) = form (codes "list") (whole_form from ∷ [])
+request_form_by of_body (Pull from false) = form (codes "pull") (whole_form from ∷ [])
+request_form_by of_body (Pull from true) = form (codes "wait") (whole_form from ∷ [])
+request_form_by of_body Leave = form (codes "leave") []
 
--- what a request that is read keeps to
 abbrev pub IsRequest : Request → Type 0
 IsRequest (Join room) = is_room_name room ≡ true
 IsRequest (Back room site) = (is_room_name room ≡ true) × (is_site site ≡ true)
@@ -150,78 +146,67 @@ IsRequest Leave = Unit {0}
 abbrev pub IsFormBy : {X : Type 0} → ((Body → WordAndFields) → X → Data) → Data → X → Type 0
 IsFormBy form_by d x = (d ≡ form_by body_form x) ⊎ (d ≡ form_by old_body_form x)
 
--- the JSON value is a form of the request
 abbrev pub IsRequestForm : Data → Request → Type 0
 IsRequestForm = IsFormBy request_form_by
 
--- the bytes are a text of x, with any white space and escapes: UTF-8 that is read as a form of x,
--- which is in range
-pub record IsTextOf {X : Type 0} (IsForm : Data → X → Type 0) (Fits : X
-    → Type 0) (bytes : List ℕ) (x : X) : Type 0 where
+-- the bytes are UTF-8 that is read as a form of x, with any white space and escapes
+pub record IsTextOf {X : Type 0} (IsForm : Data → X → Type 0) (Fits : X → Type 0)
+    (bytes : List ℕ) (x : X) : Type 0 where
   pub utf8 : IsUtf8 bytes
   pub value : Data
   pub is_read : read bytes ≡ Some value
   pub form : IsForm value x
   pub in_range : Fits x
 
--- the bytes are a text of the request, of at most 16,384 bytes
 pub record IsRequestText (bytes : List ℕ) (q : Request) : Type 0 where
   pub short : length bytes ≤ MAX_REQUEST_LEN
   pub text : IsTextOf IsRequestForm IsRequest bytes q
 
--- the form of a request about notes
 abbrev pub note_request_form : NoteRequest → Data
-note_request_form (note.Set text) = list_form (string (codes "note") ∷ string text ∷ [])
-note_request_form note.Read = list_form (string (codes "notes") ∷ [])
+note_request_form (note.Set text) = form (codes "note") (string text ∷ [])
+note_request_form note.Read = form (codes "notes") []
 
--- such a request in range
 abbrev pub IsNoteRequest : NoteRequest → Type 0
 IsNoteRequest (note.Set text) = is_value_text text ≡ true
 IsNoteRequest note.Read = Unit {0}
 
--- the bytes are a text of such a request, of at most 16,384 bytes
 pub record IsNoteRequestText (bytes : List ℕ) (q : NoteRequest) : Type 0 where
   pub short : length bytes ≤ MAX_REQUEST_LEN
   pub text : IsTextOf (λ d q. d ≡ note_request_form q) IsNoteRequest bytes q
 
--- what is shown of a version: its attributes, or that it is gone
+-- ---- entries and replies
+
 abbrev pub shown_form : Shown → Data
 shown_form (Attrs attrs) = attrs_form attrs
 shown_form Gone = string (codes "gone")
 
--- a version: its identifier and what is shown of it
 abbrev pub version_form : Version → Data
 version_form v = list_form (names_form v.id ∷ shown_form v.shown ∷ [])
 
--- an object with its kind
 abbrev pub object_form : (ℕ × ℕ) × List ℕ → Data
 object_form o = list_form (name_form o.0 ∷ string o.1 ∷ [])
 
--- a note: its site and its text
 abbrev pub note_form : Note → Data
 note_form n = list_form (whole_form n.0 ∷ string n.1 ∷ [])
 
 -- the form of a record's entry, with bodies in these forms
 abbrev pub entry_form_by : (Body → WordAndFields) → Entry → Data
-entry_form_by of_body (JoinOf site) = list_form (string (codes "join") ∷ whole_form site ∷ [])
+entry_form_by of_body (JoinOf site) = form (codes "join") (whole_form site ∷ [])
 entry_form_by of_body (Operation o) = operation_form (name_form o.name) o.seen (of_body o.body)
-entry_form_by of_body (Next count) = list_form (string (codes "next") ∷ whole_form count ∷ [])
+entry_form_by of_body (Next count) = form (codes "next") (whole_form count ∷ [])
 
 -- the form in which an entry is written
 abbrev pub entry_form : Entry → Data
 entry_form = entry_form_by body_form
 
--- the JSON value is a form of the entry
 abbrev pub IsEntryForm : Data → Entry → Type 0
 IsEntryForm = IsFormBy entry_form_by
 
--- an entry in range
 abbrev pub IsEntry : Entry → Type 0
 IsEntry (JoinOf site) = is_site site ≡ true
 IsEntry (Operation o) = (is_op_name o.name ≡ true) × (is_vector o.seen ≡ true) × IsBody o.body
 IsEntry (Next count) = is_at count ≡ true
 
--- the bytes are a text of the entry
 abbrev pub IsEntryText : List ℕ → Entry → Type 0
 IsEntryText = IsTextOf IsEntryForm IsEntry
 
@@ -237,77 +222,58 @@ IsListForm IsForm d xs = (ds : List Data) × AreForms IsForm ds xs × (d ≡ lis
 
 -- the form in which a reply is written: its word, the number of entries before the call, and more
 abbrev pub reply_form : Reply → Data
-reply_form (Joined at site) =
-    list_form (string (codes "joined") ∷ whole_form at ∷ whole_form site ∷ [])
+reply_form (Joined at site) = form (codes "joined") (whole_form at ∷ whole_form site ∷ [])
 reply_form (Returned at site seq) =
-    list_form (string (codes "back") ∷ whole_form at ∷ whole_form site ∷ whole_form seq ∷ [])
-reply_form (Made at name) = list_form (string (codes "made") ∷ whole_form at ∷ name_form name ∷ [])
+    form (codes "back") (whole_form at ∷ whole_form site ∷ whole_form seq ∷ [])
+reply_form (Made at name) = form (codes "made") (whole_form at ∷ name_form name ∷ [])
 reply_form (Taken at ids) =
-    list_form (string (codes "taken") ∷ whole_form at ∷ list_form (map names_form ids) ∷ [])
-reply_form (Versions at name kind versions) =
-    list_form
-    (string (codes "versions") ∷ whole_form at ∷ name_form name ∷ string kind
-    ∷ list_form (map version_form versions) ∷ [])
-reply_form (Objects at from total objects) =
-    list_form
-    (string (codes "objects") ∷ whole_form at ∷ whole_form from ∷ whole_form total
-    ∷ list_form (map object_form objects) ∷ [])
-reply_form (Entries at from entries) =
-    list_form
-    (string (codes "entries") ∷ whole_form at ∷ whole_form from
-    ∷ list_form (map entry_form entries) ∷ [])
-reply_form (Left at) = list_form (string (codes "left") ∷ whole_form at ∷ [])
+    form (codes "taken") (whole_form at ∷ list_form (map names_form ids) ∷ [])
+reply_form (Versions at name kind versions) = form (codes "versions")
+    (whole_form at ∷ name_form name ∷ string kind ∷ list_form (map version_form versions) ∷ [])
+reply_form (Objects at from total objects) = form (codes "objects")
+    (whole_form at ∷ whole_form from ∷ whole_form total ∷ list_form (map object_form objects) ∷ [])
+reply_form (Entries at from entries) = form (codes "entries")
+    (whole_form at ∷ whole_form from ∷ list_form (map entry_form entries) ∷ [])
+reply_form (Left at) = form (codes "left") (whole_form at ∷ [])
 reply_form (Notes at notes) =
-    list_form (string (codes "notes") ∷ whole_form at ∷ list_form (map note_form notes) ∷ [])
-reply_form (Renewed at room) =
-    list_form (string (codes "renewed") ∷ whole_form at ∷ string room ∷ [])
-reply_form (No at refusal) =
-    list_form
-    (string (codes "no") ∷ whole_form at ∷ whole_form (code_of refusal)
-    ∷ string (word_of refusal) ∷ [])
+    form (codes "notes") (whole_form at ∷ list_form (map note_form notes) ∷ [])
+reply_form (Renewed at room) = form (codes "renewed") (whole_form at ∷ string room ∷ [])
+reply_form (No at refusal) = form (codes "no")
+    (whole_form at ∷ whole_form (code_of refusal) ∷ string (word_of refusal) ∷ [])
 
--- the JSON value is a form of the reply: the one that is written, but that entries of a page may
--- have their old forms
+-- the form that is written, but that entries of a page may have their old forms
 abbrev pub IsReplyForm : Data → Reply → Type 0
 IsReplyForm d (Entries at from entries) =
     (page : Data) × IsListForm IsEntryForm page entries
-    × (d ≡ list_form (string (codes "entries") ∷ whole_form at ∷ whole_form from ∷ page ∷ []))
+    × (d ≡ form (codes "entries") (whole_form at ∷ whole_form from ∷ page ∷ []))
 IsReplyForm d reply = d ≡ reply_form reply
 
--- the attributes of a version, in range
+-- the attributes of a version
 abbrev pub AreShown : List Attr → Type 0
 AreShown attrs = AllByRecursion IsAttr attrs × (rise attr_before attrs ≡ true)
 
--- what is shown of a version, in range
 abbrev pub IsShown : Shown → Type 0
 IsShown (Attrs attrs) = AreShown attrs
 IsShown Gone = Unit {0}
 
--- a version in range
 abbrev pub IsVersion : Version → Type 0
 IsVersion v = IsId v.id × IsShown v.shown
 
--- an object's versions, in range
 abbrev pub AreVersions : List Version → Type 0
 AreVersions versions = AllByRecursion IsVersion versions × (rise version_before versions ≡ true)
 
--- the identifiers of an object's versions, in range
 abbrev pub AreIds : List (List (ℕ × ℕ)) → Type 0
 AreIds ids = AllByRecursion IsId ids × (rise id_before ids ≡ true)
 
--- an object with its kind, in range
 abbrev pub IsObject : (ℕ × ℕ) × List ℕ → Type 0
 IsObject o = (is_op_name o.0 ≡ true) × (is_kind o.1 ≡ true)
 
--- a note in range
 abbrev pub IsNote : Note → Type 0
 IsNote n = (is_site n.0 ≡ true) × (is_value_text n.1 ≡ true)
 
--- the notes of a room, in range
 abbrev pub AreNotes : List Note → Type 0
 AreNotes notes = AllByRecursion IsNote notes × (rise site_before notes ≡ true)
 
--- a reply in range
 abbrev pub IsReply : Reply → Type 0
 IsReply (Joined at site) = (is_at at ≡ true) × (is_site site ≡ true)
 IsReply (Returned at site seq) = (is_at at ≡ true) × (is_site site ≡ true) × (is_at seq ≡ true)
@@ -325,6 +291,5 @@ IsReply (Notes at notes) = (is_at at ≡ true) × AreNotes notes
 IsReply (Renewed at room) = (is_at at ≡ true) × (is_room_name room ≡ true)
 IsReply (No at refusal) = is_at at ≡ true
 
--- the bytes are a text of the reply
 abbrev pub IsReplyText : List ℕ → Reply → Type 0
 IsReplyText = IsTextOf IsReplyForm IsReply

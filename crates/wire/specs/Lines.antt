@@ -1,11 +1,9 @@
 -- The lines of bytes.
 use Rattle.std.specs.Prelude.{ℕ, Bool, ◌==◌, List, [], ◌∷◌, if◌then◌else◌}
 
--- a byte that ends a line
 abbrev pub ends_line : ℕ → Bool
 ends_line byte = byte == 10
 
--- a byte joins the first line
 abbrev pub onto_first : ℕ → List (List ℕ) → List (List ℕ)
 onto_first byte [] = (byte ∷ []) ∷ []
 onto_first byte (line ∷ lines) = (byte ∷ line) ∷ lines

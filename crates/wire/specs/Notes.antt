@@ -6,7 +6,6 @@ use Rattle.base_types.specs.declared.op_name.TheConstants.{MAX_SITE}
 use Rattle.wire.specs.declared.note.NoteRequest.{NoteRequest}
 use Rattle.wire.specs.declared.note.NoteRequest.TheVariants.{Set, Read}
 
--- a site and its note
 abbrev pub Note : Type 0
 Note = ℕ × Bytes
 
@@ -14,7 +13,6 @@ Note = ℕ × Bytes
 abbrev pub Notes : Type 0
 Notes = ℕ → Option Bytes
 
--- no site has a note
 abbrev pub no_notes : Notes
 no_notes site = None
 
@@ -23,11 +21,9 @@ abbrev pub note_of : Bytes → Option Bytes
 note_of [] = None
 note_of (byte ∷ bytes) = Some (byte ∷ bytes)
 
--- this is the site's note, and the others have theirs
 abbrev pub with_note : ℕ → Option Bytes → Notes → Notes
 with_note site note notes = λ other. if site == other then note else notes other
 
--- the notes after a request of a site
 abbrev pub notes_after : ℕ → NoteRequest → Notes → Notes
 notes_after site (Set text) notes = with_note site (note_of text) notes
 notes_after site Read notes = notes
@@ -43,6 +39,5 @@ notes_from site zero notes = []
 notes_from site (suc count) notes =
     note_before site (notes site) (notes_from (site + 1) count notes)
 
--- all notes, in order of site
 unfoldable pub all_notes : Notes → List Note
 all_notes = notes_from 1 MAX_SITE

@@ -6,7 +6,6 @@ use Rattle.wire.specs.declared.reply.Reply.{Reply}
 use Rattle.wire.specs.declared.reply.Reply.TheVariants.{Joined, Returned, Made, Taken, Versions}
 use Rattle.wire.specs.declared.reply.Reply.TheVariants.{Objects, Entries, Left, Notes, Renewed, No}
 
--- the number of entries before the call
 abbrev pub at_of : Reply → ℕ
 at_of (Joined at site) = at
 at_of (Returned at site seq) = at
@@ -20,13 +19,12 @@ at_of (Notes at notes) = at
 at_of (Renewed at room) = at
 at_of (No at refusal) = at
 
--- the kind of the new entry that the reply reports, if it reports one
+-- the kind of the new entry that the reply reports
 abbrev pub entry_kind : Reply → Option EntryKind
 entry_kind (Joined at site) = Some kind.Join
 entry_kind (Made at name) = Some kind.Creation
 entry_kind (Taken at ids) = Some kind.Change
 entry_kind _ = None
 
--- does the reply report a new entry
 abbrev pub adds : Reply → Bool
 adds reply = is_some (entry_kind reply)

@@ -4,6 +4,5 @@ use Rattle.serde_json.specs.Written.{compact_text}
 use Rattle.wire.specs.declared.reply.Reply.{Reply}
 use Rattle.wire.specs.Form.{reply_form}
 
--- the text of a reply
 unfoldable pub reply_text : Reply → List ℕ
 reply_text reply = compact_text (reply_form reply)

@@ -29,8 +29,8 @@ use Rattle.wire.specs.Form.{IsEntry, IsObject, IsReply, IsRequest, is_at, is_fro
 use Rattle.room_core.specs.Room.{Room, all_objects, with_entry}
 use Rattle.drawing.specs.Shown.{ids_with, shown_by}
 use Rattle.room_core.specs.Answers.{Outcome, answer, entry_or_refusal, has_site, join_answer, operation_answer, operation_reply, page, site_answer, reply_alone}
-use Rattle.world.specs.Alone.{outside_answer, move_of}
-use Rattle.world.specs.steps.Steps.{asker_answer}
+use Rattle.world.specs.Alone.{move_of}
+use Rattle.world.specs.steps.Steps.{asker_answer, outside_answer}
 use Rattle.world.proofs.Ranges.{IsOp, all_if, all_take, all_drop, all_push, ops_in_range, kind_in_range, versions_in_range, ids_in_range}
 
 -- ---- a legal record is within its limits

@@ -1,10 +1,11 @@
 -- What one answer does to the rooms side by side.
 use Rattle.std.proofs.Common.{◌≡◌, ℕ, ◌<◌, List, length, get_or, set, Option, Some, None, Bool, true, false, cond, eqb, Result, Ok, Err, OnOk, refl, sym, ap, subst, ◌∙◌}
-use Rattle.std.specs.Option.{option_map, option_and_then}
+use Rattle.std.specs.Option.{option_map, option_and_then, option_or}
 use mathlib.Core.Path.{fun_ext}
 use Rattle.std.proofs.lemmas.Bool.{eq-eqb, eqb-true, eqb-false}
 use Rattle.std.proofs.lemmas.List.{get_or-set_same, get_or-set_other, length-map}
 use Rattle.wire.specs.declared.request.Request.{Request}
+use Rattle.wire.specs.declared.request.Request.TheVariants as request
 use Rattle.wire.specs.declared.reply.Reply.{Reply}
 use Rattle.wire.specs.Entering.{room_to_enter}
 use Rattle.wire_reader.specs.steps.Reads.{request_read, note_request_read}
@@ -15,11 +16,11 @@ use Rattle.room_core.specs.Room.{Room, with_entry}
 use Rattle.room_core.specs.Answers.{Outcome}
 use Rattle.world.specs.declared.seats.Seat.{Seat}
 use Rattle.world.specs.declared.seats.Asker.{Asker}
-use Rattle.world.specs.Alone.{Message, Alone, no_site, answer_to, move_of, after_move, after_reply, use_after, noted_by, notes_after_move, alone_answer, alone_after}
-use Rattle.world.specs.Rooms.{Rooms, place_of, named_place, owner_from, owner_of, after_at, rooms_after}
-use Rattle.world.specs.steps.State.{WorldState, Named, names_in, names_of, seat_of, no_room, rooms_in, room_at, is_used, uses_in, use_at, notes_of_rooms, notes_of, site_at, alone_at, rooms_of}
+use Rattle.world.specs.Alone.{Message, Alone, answer_to, move_of, after_move, use_after_move, noted_by, notes_after_move, alone_answer, alone_after}
+use Rattle.world.specs.Rooms.{Rooms, place_of, owner_of, after_at, rooms_after}
+use Rattle.world.specs.steps.State.{WorldState, Named, names_in, names_of, seat_of, no_room, rooms_in, room_at, is_used, uses_in, use_at, notes_of_rooms, notes_of, site_at, alone_at, rooms_of, no_site}
 use Rattle.world.specs.steps.Seated.{SeatsWithin}
-use Rattle.world.specs.steps.Steps.{asker_answer, place_answer, asker_of, seat_in, IsMoved}
+use Rattle.world.specs.steps.Steps.{asker_answer, place_answer, asker_of, seat_in, IsMoved, named_place}
 use Rattle.world.proofs.Places.{place_of_within}
 use Rattle.world.proofs.SeatMaps.{seat_within}
 
@@ -54,12 +55,12 @@ site_by place (Some (Some site)) session old q = elim (eqb session q) as (λ b. 
 
 -- where a session is after it moved
 inside-moved : (place : ℕ) (reply : Reply) (session : ℕ) (old : ℕ → Option Seat) (q : ℕ)
-    → option_map (λ (s : Seat). s.place) (after_reply reply (seat_in place) session old q) ≡ after_reply reply (λ site. place) session (λ s. option_map (λ (s : Seat). s.place) (old s)) q
+    → option_map (λ (s : Seat). s.place) (after_move (move_of reply) (seat_in place) session old q) ≡ after_move (move_of reply) (λ site. place) session (λ s. option_map (λ (s : Seat). s.place) (old s)) q
 inside-moved place reply session old q = place_by place (move_of reply) session old q
 
 -- its site in the room that it moved in
 site_at-moved : (place : ℕ) (reply : Reply) (session : ℕ) (old : ℕ → Option Seat) (q : ℕ)
-    → site_at place (after_reply reply (seat_in place) session old q) ≡ after_reply reply (λ site. site) session (λ s. site_at place (old s)) q
+    → site_at place (after_move (move_of reply) (seat_in place) session old q) ≡ after_move (move_of reply) (λ site. site) session (λ s. site_at place (old s)) q
 site_at-moved place reply session old q = site_by place (move_of reply) session old q
 
 -- in each other room nothing moved
@@ -78,7 +79,7 @@ other_by place other (Some (Some site)) session old q apart none =
     ∙ kept_by (eqb session q) session q (λ s. site_at other (old s)) refl none
 
 site_at_other-moved : (place other : ℕ) (reply : Reply) (session : ℕ) (old : ℕ → Option Seat) (q : ℕ)
-    → eqb place other ≡ false → site_at other (old session) ≡ None → site_at other (after_reply reply (seat_in place) session old q) ≡ site_at other (old q)
+    → eqb place other ≡ false → site_at other (old session) ≡ None → site_at other (after_move (move_of reply) (seat_in place) session old q) ≡ site_at other (old q)
 site_at_other-moved place other reply session old q apart none = other_by place other (move_of reply) session old q apart none
 
 -- an answer of one room, with its entry and its moves, is that room's alone
@@ -87,7 +88,7 @@ module _ (state new : WorldState) (message : Message) (place : ℕ) (outcome : O
     (apart : (other : ℕ) → eqb place other ≡ false → site_at other (seat_of state.seats message.session) ≡ None)
     (is_answer : alone_answer (alone_at state place) message ≡ outcome)
     (rooms : rooms_in new.rooms ≡ set (rooms_in state.rooms) place (with_entry (room_at state.rooms place) outcome.1))
-    (uses : uses_in new.rooms ≡ set (uses_in state.rooms) place (use_after outcome.0 (site_at place (seat_of state.seats message.session)) (use_at state.rooms place)))
+    (uses : uses_in new.rooms ≡ set (uses_in state.rooms) place (use_after_move (move_of outcome.0) (site_at place (seat_of state.seats message.session)) (use_at state.rooms place)))
     (seats : IsMoved state.seats new.seats outcome.0 message.session place)
     (noted : notes_of_rooms new.rooms ≡ set (notes_of_rooms state.rooms) place
     (notes_after_move (move_of outcome.0) (site_at place (seat_of state.seats message.session))
@@ -95,7 +96,7 @@ module _ (state new : WorldState) (message : Message) (place : ℕ) (outcome : O
   where
     inside_is : (rooms_of new).inside ≡ (after_at (rooms_of state) message (Some place)).inside
     inside_is = fun_ext (λ q. ap (option_map (λ (seat : Seat). seat.place)) (seats q) ∙ inside-moved place outcome.0 message.session (seat_of state.seats) q
-        ∙ ap (λ (o : Outcome). after_reply o.0 (λ site. place) message.session (rooms_of state).inside q) (sym is_answer))
+        ∙ ap (λ (o : Outcome). after_move (move_of o.0) (λ site. place) message.session (rooms_of state).inside q) (sym is_answer))
 
     here : (q : ℕ) → place ≡ q → alone_at new q ≡ alone_after (alone_at state place) message
     here q e = subst (λ p. alone_at new p ≡ alone_after (alone_at state place) message) e (alone_same _ _
@@ -103,10 +104,10 @@ module _ (state new : WorldState) (message : Message) (place : ℕ) (outcome : O
         ∙ get_or-set_same (rooms_in state.rooms) place _ no_room (rw (length-map state.rooms (λ room. room.room)) within)
         ∙ ap (λ (o : Outcome). with_entry (room_at state.rooms place) o.1) (sym is_answer))
         (fun_ext (λ s. ap (site_at place) (seats s) ∙ site_at-moved place outcome.0 message.session (seat_of state.seats) s
-        ∙ ap (λ (o : Outcome). after_reply o.0 (λ site. site) message.session (alone_at state place).site_of s) (sym is_answer)))
+        ∙ ap (λ (o : Outcome). after_move (move_of o.0) (λ site. site) message.session (alone_at state place).site_of s) (sym is_answer)))
         (ap (λ (uses : List (ℕ → Bool)). get_or uses place no_site) uses
         ∙ get_or-set_same (uses_in state.rooms) place _ no_site (rw (length-map state.rooms (λ room. is_used room.in_use)) within)
-        ∙ ap (λ (o : Outcome). use_after o.0 (site_at place (seat_of state.seats message.session)) (use_at state.rooms place)) (sym is_answer))
+        ∙ ap (λ (o : Outcome). use_after_move (move_of o.0) (site_at place (seat_of state.seats message.session)) (use_at state.rooms place)) (sym is_answer))
         (ap (λ (all : List Notes). get_or all place no_notes) noted
         ∙ get_or-set_same (notes_of_rooms state.rooms) place _ no_notes (rw (length-map state.rooms (λ room. notes_at room.notes)) within)
         ∙ ap (λ (o : Outcome). notes_after_move (move_of o.0) (site_at place (seat_of state.seats message.session))
@@ -134,7 +135,7 @@ module _ (state new : WorldState) (message : Message) (place : ℕ) (outcome : O
 -- what is known of whoever asks a room
 pub record Asks (names : List (List ℕ)) (session : ℕ) (seat : Option Seat) (request : Request) (asker : Asker) : Type 0 where
   pub session_is : asker.session ≡ session
-  pub owner : owner_from (option_map (λ (s : Seat). s.place) seat) (named_place names (Some request)) ≡ Some asker.place
+  pub owner : option_or (option_map (λ (s : Seat). s.place) seat) (named_place names (Some request)) ≡ Some asker.place
   pub site : site_at asker.place seat ≡ asker.site
   pub apart : (other : ℕ) → eqb asker.place other ≡ false → site_at other seat ≡ None
 
@@ -167,15 +168,21 @@ asks_of names session (Some seat) request asker e =
     })
 
 -- a request is answered by who asks
-by_asker : (alone : Alone) (who : Option ℕ) (request : Request) (asked : Option NoteRequest) → answer_to alone who (Some request) asked ≡ asker_answer alone.room alone.in_use who request
-by_asker alone None request asked = refl
+pub by_asker : (alone : Alone) (who : Option ℕ) (request : Request) (asked : Option NoteRequest) → answer_to alone who (Some request) asked ≡ asker_answer alone.room alone.in_use who request
 by_asker alone (Some site) request asked = refl
+by_asker alone None (request.Join name) asked = refl
+by_asker alone None (request.Back name site) asked = refl
+by_asker alone None (request.Change seq seen body) asked = refl
+by_asker alone None (request.Show name) asked = refl
+by_asker alone None (request.List from) asked = refl
+by_asker alone None (request.Pull from waits) asked = refl
+by_asker alone None request.Leave asked = refl
 
 module _ (state : WorldState) (message : Message) (request : Request)
     (is_request : request_read message.bytes ≡ Some request)
   where
-    owner_by : (o : Option ℕ) → owner_from (option_map (λ (s : Seat). s.place) (seat_of state.seats message.session)) (named_place (names_of state) (Some request)) ≡ o → owner_of (names_of state) (rooms_of state) message ≡ o
-    owner_by o e = ap (λ r. owner_from (option_map (λ (s : Seat). s.place) (seat_of state.seats message.session)) (named_place (names_of state) r)) is_request ∙ e
+    owner_by : (o : Option ℕ) → option_or (option_map (λ (s : Seat). s.place) (seat_of state.seats message.session)) (named_place (names_of state) (Some request)) ≡ o → owner_of (names_of state) (rooms_of state) message ≡ o
+    owner_by o e = ap (λ r. option_or (option_map (λ (s : Seat). s.place) (seat_of state.seats message.session)) (named_place (names_of state) r)) is_request ∙ e
 
     module _ (asker : Asker)
         (found : asker_of (names_of state) message.session (seat_of state.seats message.session) request ≡ Some asker)
@@ -197,13 +204,13 @@ module _ (state : WorldState) (message : Message) (request : Request)
 
         pub asked_after : (new : WorldState) → asker.place < length state.rooms
             → rooms_in new.rooms ≡ set (rooms_in state.rooms) asker.place (with_entry (room_at state.rooms asker.place) (place_answer state.rooms asker.place asker.site request).1)
-            → uses_in new.rooms ≡ set (uses_in state.rooms) asker.place (use_after (place_answer state.rooms asker.place asker.site request).0 asker.site (use_at state.rooms asker.place))
+            → uses_in new.rooms ≡ set (uses_in state.rooms) asker.place (use_after_move (move_of (place_answer state.rooms asker.place asker.site request).0) asker.site (use_at state.rooms asker.place))
             → IsMoved state.seats new.seats (place_answer state.rooms asker.place asker.site request).0 asker.session asker.place
             → notes_of_rooms new.rooms ≡ set (notes_of_rooms state.rooms) asker.place (notes_after_move (move_of (place_answer state.rooms asker.place asker.site request).0) asker.site (notes_of state.rooms asker.place))
             → rooms_of new ≡ rooms_after (names_of state) (rooms_of state) message
         asked_after new within rooms uses seats notes =
             let outcome = place_answer state.rooms asker.place asker.site request in
-            let used = subst (λ who. uses_in new.rooms ≡ set (uses_in state.rooms) asker.place (use_after outcome.0 who (use_at state.rooms asker.place))) (sym asks.site) uses in
+            let used = subst (λ who. uses_in new.rooms ≡ set (uses_in state.rooms) asker.place (use_after_move (move_of outcome.0) who (use_at state.rooms asker.place))) (sym asks.site) uses in
             let who = site_at asker.place (seat_of state.seats message.session) in
             let move = move_of outcome.0 in
             let asked = note_request_read message.bytes in

@@ -6,7 +6,7 @@ use Rattle.std.specs.Io.KnownBytes.{Appends}
 use Rattle.wire.specs.Lines.{lines_of, onto_first}
 use Rattle.wire.specs.steps.OneLine.{IsOneLine}
 use Rattle.world.specs.steps.State.{WorldState, names_of, rooms_of}
-use Rattle.world.specs.Script.{lines_out, lines_end}
+use Rattle.world.specs.steps.Ends.{lines_out, lines_end}
 use Rattle.world.specs.steps.Endings.{breaks_in, ended_lines, AnswersRead}
 use Rattle.world.specs.steps.Answered.{kept_part, Answered}
 use Rattle.world.proofs.Parts.{first_output, first_end}

@@ -6,10 +6,9 @@ use Rattle.std.proofs.lemmas.Bool.{ne_eqb, eqb-true, eq-eqb}
 use Rattle.memchr.specs.Find.{Nowhere, NoneBefore, Passes, is_byte}
 use Rattle.wire.specs.Lines.{lines_of, onto_first}
 use Rattle.wire.specs.steps.OneLine.{IsOneLine}
-use Rattle.world.specs.Alone.{message_of}
-use Rattle.world.specs.steps.State.{WorldState, names_of, rooms_of}
-use Rattle.world.specs.Script.{number_then, message_in, text_for, rooms_for, lines_out, lines_end}
-use Rattle.world.specs.steps.Ends.{output_of, end_of}
+use Rattle.world.specs.steps.State.{WorldState, names_of, rooms_of, message_of}
+use Rattle.world.specs.steps.Messages.{message_in, number_then}
+use Rattle.world.specs.steps.Ends.{output_of, end_of, text_for, rooms_for, lines_out, lines_end}
 
 pub number_then_more : (value : ℕ) (bytes : List ℕ) (i : ℕ) → i < length bytes
     → number_then value (drop i bytes) ≡ cond (eqb (get_or bytes i 0) 32) (Some (message_of value (drop (i + 1) bytes)))

@@ -5,6 +5,7 @@ use Rattle.std.specs.Fmt.{decimal}
 use Rattle.std.proofs.lemmas.Bool.{ne_eqb, lt-leb, eqb-true, ltb-true, ltb-false}
 use Rattle.std.proofs.lemmas.List.{length-append, length-drop, length-take, take_all, take_at, drop_at, take-append-le, drop-append-le, take-append-drop}
 use Rattle.std.proofs.lemmas.Fmt.{length-decimal-le}
+use Rattle.std.specs.Option.{option_or}
 use Rattle.rules.specs.declared.refusal.Refusal.TheVariants.{BadMessage}
 use Rattle.wire.specs.Lines.{lines_of, onto_first}
 use Rattle.wire.specs.steps.OneLine.{IsOneLine}
@@ -16,16 +17,17 @@ use Rattle.wire.specs.Notes.{Notes}
 use Rattle.wire_reader.specs.steps.Reads.{request_read, note_request_read, reply_read}
 use Rattle.room_core.specs.Room.{with_entry}
 use Rattle.room_core.specs.Shown.{HasObject}
-use Rattle.world.specs.Alone.{Message, message_of, Alone, answer_to, notes_or_bad, move_of, noted_by, notes_after_move, after_reply, use_after, alone_reply, alone_after}
-use Rattle.world.specs.Rooms.{Rooms, named_place, lone_answer, notes_refusal, owner_from, owner_of, reply_at, after_at, reply_to, rooms_after}
-use Rattle.world.specs.steps.State.{WorldState, names_of, rooms_of}
-use Rattle.world.specs.Script.{message_in, text_for, rooms_for, lines_out, lines_end}
+use Rattle.world.specs.steps.Steps.{named_place}
+use Rattle.world.specs.Alone.{Message, Alone, answer_to, move_of, noted_by, notes_after_move, after_move, use_after_move, alone_reply, alone_after}
+use Rattle.world.specs.Rooms.{Rooms, lone_answer, owner_of, after_at, rooms_after}
+use Rattle.world.specs.steps.State.{WorldState, names_of, rooms_of, message_of}
+use Rattle.world.specs.steps.Messages.{message_in}
 use Rattle.world.specs.declared.script.TheConstants.{LINE_LIMIT}
 use Rattle.world.specs.steps.Answered.{kept_part, LineShows, LinesShow}
 use Rattle.world.proofs.Changed.{rooms_same, alone_same}
 use Rattle.world.proofs.Lines.{no_break_parts}
 use Rattle.world.proofs.LineForms.{line_of_message, message_of_line}
-use Rattle.world.specs.steps.Ends.{output_of}
+use Rattle.world.specs.steps.Ends.{output_of, reply_at, reply_to, text_for, rooms_for, lines_out, lines_end}
 
 -- ---- what is no request
 
@@ -48,11 +50,11 @@ bad_if_long bytes long = record { request = no_request bytes long; note = no_not
 alone_bad : (alone : Alone) (m : Message) → IsBad m.bytes → alone_reply alone m ≡ No 0 BadMessage
 alone_bad alone m bad =
     ap (λ r. (answer_to alone (alone.site_of m.session) r (note_request_read m.bytes)).0) bad.request
-    ∙ ap (λ a. (notes_or_bad alone.room alone.notes (alone.site_of m.session) a).0) bad.note
+    ∙ ap (λ a. (answer_to alone (alone.site_of m.session) None a).0) bad.note
 
 pub bad_reply : (names : List (List ℕ)) (rooms : Rooms) (m : Message) → IsBad m.bytes → reply_to names rooms m ≡ No 0 BadMessage
-bad_reply names rooms m bad = elim (rooms.inside m.session) as (λ o. reply_at rooms m (owner_from o (named_place names (request_read m.bytes))) ≡ No 0 BadMessage) [
-  | None ↦ ap (λ r. reply_at rooms m (named_place names r)) bad.request ∙ ap (λ r. lone_answer r (note_request_read m.bytes)) bad.request ∙ ap (λ a. No 0 (notes_refusal a)) bad.note
+bad_reply names rooms m bad = elim (rooms.inside m.session) as (λ o. reply_at rooms m (option_or o (named_place names (request_read m.bytes))) ≡ No 0 BadMessage) [
+  | None ↦ ap (λ r. reply_at rooms m (named_place names r)) bad.request ∙ ap (λ r. lone_answer r (note_request_read m.bytes)) bad.request ∙ ap (lone_answer None) bad.note
   | Some place ↦ alone_bad (rooms.alone place) m bad
 ]
 
@@ -67,8 +69,8 @@ alone_kept alone m bad =
     let reply = alone_bad alone m bad in
     let who = alone.site_of m.session in
     alone_same _ _
-    (ap (λ r. with_entry alone.room (answer_to alone who r (note_request_read m.bytes)).1) bad.request ∙ ap (λ a. with_entry alone.room (notes_or_bad alone.room alone.notes who a).1) bad.note)
-    (ap (λ r. after_reply r (λ site. site) m.session alone.site_of) reply) (ap (λ r. use_after r who alone.in_use) reply)
+    (ap (λ r. with_entry alone.room (answer_to alone who r (note_request_read m.bytes)).1) bad.request ∙ ap (λ a. with_entry alone.room (answer_to alone who None a).1) bad.note)
+    (ap (λ r. after_move (move_of r) (λ site. site) m.session alone.site_of) reply) (ap (λ r. use_after_move (move_of r) who alone.in_use) reply)
     (ap (λ r. notes_after_move (move_of r) who (noted_by who (request_read m.bytes) (note_request_read m.bytes) alone.notes)) reply
     ∙ un_noted who (request_read m.bytes) (note_request_read m.bytes) alone.notes bad.request bad.note)
 
@@ -77,9 +79,9 @@ kept_at true rooms m place other t bad = alone_kept (rooms.alone place) m bad �
 kept_at false rooms m place other t bad = refl
 
 pub bad_after : (names : List (List ℕ)) (rooms : Rooms) (m : Message) → IsBad m.bytes → rooms_after names rooms m ≡ rooms
-bad_after names rooms m bad = elim (rooms.inside m.session) as (λ o. after_at rooms m (owner_from o (named_place names (request_read m.bytes))) ≡ rooms) [
+bad_after names rooms m bad = elim (rooms.inside m.session) as (λ o. after_at rooms m (option_or o (named_place names (request_read m.bytes))) ≡ rooms) [
   | None ↦ ap (λ r. after_at rooms m (named_place names r)) bad.request
-  | Some place ↦ rooms_same _ _ (ap (λ r. after_reply r (λ site. place) m.session rooms.inside) (alone_bad (rooms.alone place) m bad)) (fun_ext (λ other. kept_at (eqb place other) rooms m place other refl bad))
+  | Some place ↦ rooms_same _ _ (ap (λ r. after_move (move_of r) (λ site. place) m.session rooms.inside) (alone_bad (rooms.alone place) m bad)) (fun_ext (λ other. kept_at (eqb place other) rooms m place other refl bad))
 ]
 
 -- ---- two ends of one long line
@@ -123,7 +125,7 @@ bad_shows names rooms m n e f same shows at object kind versions is_read =
     let replies = bad_reply names rooms m e ∙ sym (bad_reply names rooms n f) in
     let rooms_are = bad_after names rooms m e ∙ sym (bad_after names rooms n f) in
     let owners_are : owner_of names rooms n ≡ owner_of names rooms m =
-    ap (λ q. owner_from (rooms.inside q) (named_place names (request_read n.bytes))) same ∙ ap (λ r. owner_from (rooms.inside m.session) (named_place names r)) (f.request ∙ sym e.request) in
+    ap (λ q. option_or (rooms.inside q) (named_place names (request_read n.bytes))) same ∙ ap (λ r. option_or (rooms.inside m.session) (named_place names r)) (f.request ∙ sym e.request) in
     let there = shows at object kind versions (ap (λ r. reply_read (reply_text r)) replies ∙ is_read) in
     record {
       place = there.place;

@@ -1,5 +1,5 @@
 -- What an answer of a room does with its session, and with the sites that have joined.
-use Rattle.std.proofs.Common.{◌≡◌, ℕ, ◌+◌, ◌≤◌, ◌⊎◌, inl, inr, Bool, true, false, cond, leb, ltb, List, [], ◌∷◌, ◌++◌, length, Option, Some, None, refl, ◌&&◌, arith}
+use Rattle.std.proofs.Common.{◌≡◌, ℕ, ◌+◌, ◌≤◌, ◌⊎◌, inl, inr, Bool, true, false, cond, leb, ltb, List, [], ◌∷◌, ◌++◌, length, Option, Some, None, refl, sym, subst, ◌&&◌, arith}
 use Rattle.std.proofs.lemmas.Bool.{and_from, and_parts, le-leb, leb-true}
 use Rattle.rules.specs.declared.history.Op.{Op}
 use Rattle.rules.specs.declared.history.Entry.{Entry}
@@ -19,7 +19,9 @@ use Rattle.drawing.specs.Shown.{shown_by}
 use Rattle.room_core.specs.Room.{Room, with_entry}
 use Rattle.room_core.specs.Answers.{Outcome, answer, entry_or_refusal, has_site, join_answer, operation_by, operation_reply, reply_alone, site_answer}
 use Rattle.wire.specs.declared.note.NoteRequest.{NoteRequest}
-use Rattle.world.specs.Alone.{Alone, answer_to, move_of, outside_answer}
+use Rattle.world.specs.steps.Steps.{outside_answer}
+use Rattle.world.specs.Alone.{Alone, answer_to, move_of}
+use Rattle.world.proofs.Changed.{by_asker}
 
 -- the answer lets its session in, as a site that has joined and that nobody is in as
 pub record Enters (room : Room) (in_use : ℕ → Bool) (who : Option ℕ) (outcome : Outcome) : Type 0 where
@@ -151,5 +153,5 @@ answer_moves alone joined None None None = inl refl
 answer_moves alone joined None None (Some asked) = inl refl
 answer_moves alone joined (Some site) None None = inl refl
 answer_moves alone joined (Some site) None (Some asked) = inl refl
-answer_moves alone joined None (Some asks) asked = outside_moves alone.room alone.in_use joined asks
+answer_moves alone joined None (Some asks) asked = subst (Moves alone.room alone.in_use None) (sym (by_asker alone None asks asked)) (outside_moves alone.room alone.in_use joined asks)
 answer_moves alone joined (Some site) (Some asks) asked = inside_moves alone.room alone.in_use joined site asks

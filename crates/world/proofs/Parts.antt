@@ -10,14 +10,14 @@ use Rattle.wire.specs.Lines.{lines_of}
 use Rattle.wire.specs.steps.OneLine.{IsOneLine}
 use Rattle.world.specs.Rooms.{Rooms}
 use Rattle.world.specs.steps.State.{WorldState, names_of, rooms_of}
-use Rattle.world.specs.Script.{message_in, text_for, rooms_for, lines_out, lines_end}
+use Rattle.world.specs.steps.Messages.{message_in}
 use Rattle.world.specs.steps.Endings.{Stops}
 use Rattle.world.specs.declared.script.TheConstants.{LINE_LIMIT}
 use Rattle.world.specs.steps.Answered.{kept_part, line_text, IsHeld, LinesShow, IsPastLine, IsPastEnd, Answered, Adds, AnswersSome, Hands, Wrote, WroteSome}
 use Rattle.world.proofs.LongLines.{lines_cut, out_kept, end_kept, shows_kept, shows_whole}
 use Rattle.wire.proofs.OneLine.{one_line_append}
 use Rattle.world.proofs.Lines.{lines_break, lines_last, end_last, no_break_parts}
-use Rattle.world.specs.steps.Ends.{output_of, end_of}
+use Rattle.world.specs.steps.Ends.{output_of, end_of, text_for, rooms_for, lines_out, lines_end}
 
 -- ---- lines one after the other
 
@@ -120,6 +120,11 @@ module _ {from to : WorldState} {taken held text : List ℕ} (h : Answered from 
 
   pub first_output : (n : ℕ) → lines_out (names_of from) (rooms_of from) (take (length h.lines + n) (lines_of (taken ++ rest))) ≡ text ++ lines_out (names_of to) (rooms_of to) (take n (lines_of (held ++ rest)))
   first_output n = out_by (take (length h.lines + n) (lines_of (taken ++ rest))) (take n (lines_of (held ++ rest))) (first_same n)
+
+  pub first_shows : (n : ℕ) → LinesShow (names_of to) (rooms_of to) (take n (lines_of (held ++ rest))) → LinesShow (names_of from) (rooms_of from) (take (length h.lines + n) (lines_of (taken ++ rest)))
+  first_shows n more =
+      shows_whole (names_of from) (rooms_of from) (take (length h.lines + n) (lines_of (taken ++ rest))) (subst (LinesShow (names_of from) (rooms_of from)) (sym (first_same n))
+      (shows_kept (names_of from) (rooms_of from) (h.lines ++ take n (lines_of (held ++ rest))) (shows_from from to h.lines (take n (lines_of (held ++ rest))) h.rooms h.names h.shown more)))
 
   pub first_end : (n : ℕ) → lines_end (names_of from) (rooms_of from) (take (length h.lines + n) (lines_of (taken ++ rest))) ≡ lines_end (names_of to) (rooms_of to) (take n (lines_of (held ++ rest)))
   first_end n = end_by (take (length h.lines + n) (lines_of (taken ++ rest))) (take n (lines_of (held ++ rest))) (first_same n)
@@ -267,6 +272,7 @@ stops_of {s0 = s0} {s1 = s1} {pending = pending} rest h = record {
   count = length h.answered.lines + 0;
   rooms = sym (first_end h.answered rest 0);
   names = h.answered.names;
+  shown = first_shows h.answered rest 0 tt;
   answers = record {
     prefix = h.written;
     rest = pending;
@@ -280,6 +286,7 @@ stops_then {a = a} {b = b} {c = c} {s1 = s1} {held = held} rest h k = record {
   count = length h.answered.lines + k.count;
   rooms = k.rooms ∙ sym (first_end h.answered rest k.count);
   names = k.names ∙ h.answered.names;
+  shown = first_shows h.answered rest k.count k.shown;
   answers = record {
     prefix = h.written ++ k.answers.prefix;
     rest = k.answers.rest;
@@ -301,6 +308,7 @@ stops_line a c s new (x ∷ line) clean some past part =
       count = 1;
       rooms = past.rooms ∙ ap (lines_end (names_of s) (rooms_of s)) one;
       names = past.names;
+      shown = subst (LinesShow (names_of s) (rooms_of s)) one (past.shown, tt);
       answers = record {
         prefix = part.prefix;
         rest = part.rest;

@@ -7,9 +7,9 @@ use Rattle.room_core.specs.Room.{Room}
 use Rattle.wire.specs.declared.request.Request.{Request}
 use Rattle.wire.specs.Notes.{Notes}
 use Rattle.notes.specs.Notes.{notes_at}
-use Rattle.world.specs.Alone.{no_site, use_after, move_of, notes_after_move}
+use Rattle.world.specs.Alone.{use_after_move, move_of, notes_after_move}
 use Rattle.world.specs.Rooms.{place_of}
-use Rattle.world.specs.steps.State.{Named, names_in, no_room, rooms_in, room_at, is_used, uses_in, use_at, notes_of_rooms, notes_of}
+use Rattle.world.specs.steps.State.{Named, names_in, no_room, rooms_in, room_at, is_used, uses_in, use_at, notes_of_rooms, notes_of, no_site}
 use Rattle.world.specs.steps.Steps.{asker_answer, place_answer}
 
 -- one room is replaced by another of its name
@@ -33,14 +33,14 @@ use_at_read (r ∷ rs) (suc i) room lt e = use_at_read rs i room (omega arith) e
 
 -- the sites in use, once the room at a place has answered
 pub uses_after : (rooms : List Named) (i : ℕ) (old new : Named) (who : Option ℕ) (request : Request) → i < length rooms → old ≡ get_or rooms i old
-    → is_used new.in_use ≡ use_after (asker_answer old.room (is_used old.in_use) who request).0 who (is_used old.in_use)
-    → uses_in (set rooms i new) ≡ set (uses_in rooms) i (use_after (place_answer rooms i who request).0 who (use_at rooms i))
+    → is_used new.in_use ≡ use_after_move (move_of (asker_answer old.room (is_used old.in_use) who request).0) who (is_used old.in_use)
+    → uses_in (set rooms i new) ≡ set (uses_in rooms) i (use_after_move (move_of (place_answer rooms i who request).0) who (use_at rooms i))
 uses_after rooms i old new who request lt e f =
     map-set (λ (room : Named). is_used room.in_use) rooms i new
     ∙ ap (set (uses_in rooms) i)
     (f
-    ∙ ap (λ room. use_after (asker_answer room (is_used old.in_use) who request).0 who (is_used old.in_use)) (room_at_read rooms i old lt e)
-    ∙ ap (λ (in_use : ℕ → Bool). use_after (asker_answer (room_at rooms i) in_use who request).0 who in_use) (use_at_read rooms i old lt e))
+    ∙ ap (λ room. use_after_move (move_of (asker_answer room (is_used old.in_use) who request).0) who (is_used old.in_use)) (room_at_read rooms i old lt e)
+    ∙ ap (λ (in_use : ℕ → Bool). use_after_move (move_of (asker_answer (room_at rooms i) in_use who request).0) who in_use) (use_at_read rooms i old lt e))
 
 pub notes_of_read : (rooms : List Named) (i : ℕ) (room : Named) → i < length rooms → room ≡ get_or rooms i room → notes_at room.notes ≡ notes_of rooms i
 notes_of_read [] i room lt e = absurd (omega arith)

@@ -8,8 +8,7 @@ use Rattle.wire.specs.declared.request.Request.TheVariants as request
 use Rattle.wire.specs.declared.reply.Reply.TheVariants.{Versions}
 use Rattle.room_core.specs.Room.{Room}
 use Rattle.room_core.proofs.Shows.{IsShownBy, join_shows, back_shows, answer_shows}
-use Rattle.world.specs.Alone.{outside_answer}
-use Rattle.world.specs.steps.Steps.{asker_answer}
+use Rattle.world.specs.steps.Steps.{asker_answer, outside_answer}
 
 module _ (room : Room) (at : ℕ) (object : Name) (kind : Bytes) (vs : List Version) (in_use : ℕ → Bool) where
   -- a session that is in no room is shown nothing

@@ -1,14 +1,17 @@
 -- The replies side by side are those of each room alone.
 use Rattle.std.proofs.Common.{◌≡◌, ◌+◌, ℕ, List, [], ◌∷◌, ◌++◌, append-nil, length, take, get_or, ◌<◌, map, Option, Some, None, Bool, true, false, cond, eqb, suc, refl, sym, ap, subst, ◌∙◌, arith}
-use Rattle.std.proofs.lemmas.Bool.{eqb-true}
+use Rattle.std.specs.List.{cons_option}
+use Rattle.std.proofs.lemmas.Bool.{eq-eqb, eqb-true}
 use Rattle.std.proofs.lemmas.List.{length_push, take_more, map-append}
 use Rattle.wire.specs.Texts.{reply_text}
-use Rattle.world.specs.Alone.{Message, Alone, alone_reply, alone_after, alone_texts, alone_end}
-use Rattle.world.specs.Rooms.{Rooms, owner_of, reply_at, after_at, reply_to, rooms_after, lone_reply, owners, at_room, at_none, texts}
-use Rattle.world.specs.steps.Ends.{rooms_end}
+use Rattle.world.specs.Alone.{Message, Alone, alone_run, alone_reply, alone_after}
+use Rattle.world.specs.Rooms.{Rooms, owner_of, after_at, rooms_after, lone_reply, owners, of_owner}
+use Rattle.world.specs.steps.Ends.{rooms_end, alone_texts, alone_end, reply_at, reply_to, texts}
 use Rattle.world.specs.steps.State.{WorldState, names_of, rooms_of}
-use Rattle.world.specs.Shown.{ShowsGroups, AllShowGroups}
+use Rattle.world.specs.steps.OwnerShown.{ShowsGroups, AllShowGroups}
 use Rattle.world.specs.Run.{IsRun}
+use Rattle.world.specs.Shown.{Shows, AllShow}
+use Rattle.room_core.specs.Shown.{HasObject}
 use Rattle.world.specs.steps.Runs.{answered_messages, answer_texts, IsStep, AnswersSomeOf}
 
 -- ---- one more message
@@ -39,11 +42,11 @@ answer_texts_push (Some text ∷ answers) answer = ap (λ xs. text ∷ xs) (answ
 -- ---- one room of them
 
 abbrev AloneAt : List (List ℕ) → ℕ → Rooms → List Message → Type 0
-AloneAt names place rooms all = at_room place (owners names rooms all) (texts names rooms all) ≡ alone_texts (rooms.alone place) (at_room place (owners names rooms all) all)
+AloneAt names place rooms all = of_owner (Some place) (owners names rooms all) (texts names rooms all) ≡ alone_texts (rooms.alone place) (of_owner (Some place) (owners names rooms all) all)
 
 room_by : (b : Bool) (rooms : Rooms) (message : Message) (owner place : ℕ) (later : List (List ℕ)) (others : List Message) → eqb owner place ≡ b
     → later ≡ alone_texts ((after_at rooms message (Some owner)).alone place) others
-    → cond b (reply_text (alone_reply (rooms.alone owner) message) ∷ later) later ≡ alone_texts (rooms.alone place) (cond b (message ∷ others) others)
+    → cons_option (cond b (Some (reply_text (alone_reply (rooms.alone owner) message))) None) later ≡ alone_texts (rooms.alone place) (cons_option (cond b (Some message) None) others)
 room_by true rooms message owner place later others e ih =
     let same = eqb-true owner place e in
     ap (λ k. reply_text (alone_reply (rooms.alone k) message) ∷ later) same
@@ -53,8 +56,8 @@ room_by false rooms message owner place later others e ih =
     ih ∙ ap (λ t. alone_texts (cond t (alone_after (rooms.alone owner) message) (rooms.alone place)) others) e
 
 alone_step : (names : List (List ℕ)) (place : ℕ) (rooms : Rooms) (message : Message) (all : List Message) (owner : Option ℕ) → AloneAt names place (after_at rooms message owner) all
-    → at_room place (owner ∷ owners names (after_at rooms message owner) all) (reply_text (reply_at rooms message owner) ∷ texts names (after_at rooms message owner) all)
-    ≡ alone_texts (rooms.alone place) (at_room place (owner ∷ owners names (after_at rooms message owner) all) (message ∷ all))
+    → of_owner (Some place) (owner ∷ owners names (after_at rooms message owner) all) (reply_text (reply_at rooms message owner) ∷ texts names (after_at rooms message owner) all)
+    ≡ alone_texts (rooms.alone place) (of_owner (Some place) (owner ∷ owners names (after_at rooms message owner) all) (message ∷ all))
 alone_step names place rooms message all None ih = ih
 alone_step names place rooms message all (Some owner) ih = room_by (eqb owner place) rooms message owner place _ _ refl ih
 
@@ -64,18 +67,18 @@ alone_law names place rooms [] = refl
 alone_law names place rooms (message ∷ all) = alone_step names place rooms message all (owner_of names rooms message) (alone_law names place (rooms_after names rooms message) all)
 
 abbrev EndAt : List (List ℕ) → ℕ → Rooms → List Message → Type 0
-EndAt names place rooms all = (rooms_end names rooms all).alone place ≡ alone_end (rooms.alone place) (at_room place (owners names rooms all) all)
+EndAt names place rooms all = (rooms_end names rooms all).alone place ≡ alone_end (rooms.alone place) (of_owner (Some place) (owners names rooms all) all)
 
 end_by : (b : Bool) (rooms : Rooms) (message : Message) (owner place : ℕ) (last : Alone) (others : List Message) → eqb owner place ≡ b
     → last ≡ alone_end ((after_at rooms message (Some owner)).alone place) others
-    → last ≡ alone_end (rooms.alone place) (cond b (message ∷ others) others)
+    → last ≡ alone_end (rooms.alone place) (cons_option (cond b (Some message) None) others)
 end_by true rooms message owner place last others e ih =
     ih ∙ ap (λ t. alone_end (cond t (alone_after (rooms.alone owner) message) (rooms.alone place)) others) e ∙ ap (λ k. alone_end (alone_after (rooms.alone k) message) others) (eqb-true owner place e)
 end_by false rooms message owner place last others e ih =
     ih ∙ ap (λ t. alone_end (cond t (alone_after (rooms.alone owner) message) (rooms.alone place)) others) e
 
 end_step : (names : List (List ℕ)) (place : ℕ) (rooms : Rooms) (message : Message) (all : List Message) (owner : Option ℕ) → EndAt names place (after_at rooms message owner) all
-    → (rooms_end names (after_at rooms message owner) all).alone place ≡ alone_end (rooms.alone place) (at_room place (owner ∷ owners names (after_at rooms message owner) all) (message ∷ all))
+    → (rooms_end names (after_at rooms message owner) all).alone place ≡ alone_end (rooms.alone place) (of_owner (Some place) (owner ∷ owners names (after_at rooms message owner) all) (message ∷ all))
 end_step names place rooms message all None ih = ih
 end_step names place rooms message all (Some owner) ih = end_by (eqb owner place) rooms message owner place _ _ refl ih
 
@@ -84,11 +87,11 @@ end_law names place rooms [] = refl
 end_law names place rooms (message ∷ all) = end_step names place rooms message all (owner_of names rooms message) (end_law names place (rooms_after names rooms message) all)
 
 abbrev LoneAt : List (List ℕ) → Rooms → List Message → Type 0
-LoneAt names rooms all = at_none (owners names rooms all) (texts names rooms all) ≡ map (λ message. reply_text (lone_reply message)) (at_none (owners names rooms all) all)
+LoneAt names rooms all = of_owner None (owners names rooms all) (texts names rooms all) ≡ map (λ message. reply_text (lone_reply message)) (of_owner None (owners names rooms all) all)
 
 lone_step : (names : List (List ℕ)) (rooms : Rooms) (message : Message) (all : List Message) (owner : Option ℕ) → LoneAt names (after_at rooms message owner) all
-    → at_none (owner ∷ owners names (after_at rooms message owner) all) (reply_text (reply_at rooms message owner) ∷ texts names (after_at rooms message owner) all)
-    ≡ map (λ message. reply_text (lone_reply message)) (at_none (owner ∷ owners names (after_at rooms message owner) all) (message ∷ all))
+    → of_owner None (owner ∷ owners names (after_at rooms message owner) all) (reply_text (reply_at rooms message owner) ∷ texts names (after_at rooms message owner) all)
+    ≡ map (λ message. reply_text (lone_reply message)) (of_owner None (owner ∷ owners names (after_at rooms message owner) all) (message ∷ all))
 lone_step names rooms message all None ih = ap (λ xs. reply_text (lone_reply message) ∷ xs) ih
 lone_step names rooms message all (Some owner) ih = ih
 
@@ -110,7 +113,50 @@ all_show_push names rooms (m ∷ all) [] message text e all_show shows = absurd 
 all_show_push names rooms (m ∷ all) (t ∷ ts) message text e all_show shows =
     (all_show.0, all_show_push names (rooms_after names rooms m) all ts message text (omega (arith, e)) all_show.1 shows)
 
+-- ---- what each room alone shows
+
+after_shows : (names : List (List ℕ)) (rooms : Rooms) (message : Message) (owner : ℕ) (text : List ℕ) → owner_of names rooms message ≡ Some owner → ShowsGroups names rooms message text
+    → Shows (alone_after (rooms.alone owner) message).room text
+after_shows names rooms message owner text is shows at object kind versions read =
+    let there = shows at object kind versions read in
+    let places : Some there.place ≡ Some owner = sym there.owner ∙ is in
+    let same : there.place ≡ owner = cc in
+    let moved : (rooms_after names rooms message).alone there.place ≡ alone_after (rooms.alone owner) message =
+    ap (λ (o : Option ℕ). (after_at rooms message o).alone there.place) is
+    ∙ ap (λ k. cond (eqb owner k) (alone_after (rooms.alone owner) message) (rooms.alone k)) same
+    ∙ ap (λ b. cond b (alone_after (rooms.alone owner) message) (rooms.alone owner)) (eq-eqb owner owner refl) in
+    subst (λ (a : Alone). HasObject a.room at object kind versions) moved there.has
+
+show_by : (b : Bool) (names : List (List ℕ)) (rooms : Rooms) (message : Message) (owner place : ℕ) (others : List Message) → eqb owner place ≡ b → owner_of names rooms message ≡ Some owner
+    → ShowsGroups names rooms message (reply_text (alone_reply (rooms.alone owner) message))
+    → AllShow ((after_at rooms message (Some owner)).alone place) others
+    → AllShow (rooms.alone place) (cons_option (cond b (Some message) None) others)
+show_by true names rooms message owner place others e is shows ih =
+    let same = eqb-true owner place e in (
+      subst (λ k. Shows (alone_after (rooms.alone k) message).room (reply_text (alone_reply (rooms.alone k) message))) same (after_shows names rooms message owner _ is shows),
+      subst (λ k. AllShow (alone_after (rooms.alone k) message) others) same (subst (λ t. AllShow (cond t (alone_after (rooms.alone owner) message) (rooms.alone place)) others) e ih),
+    )
+show_by false names rooms message owner place others e is shows ih =
+    subst (λ t. AllShow (cond t (alone_after (rooms.alone owner) message) (rooms.alone place)) others) e ih
+
+show_step : (names : List (List ℕ)) (place : ℕ) (rooms : Rooms) (message : Message) (all : List Message) (owner : Option ℕ) → owner_of names rooms message ≡ owner
+    → ShowsGroups names rooms message (reply_text (reply_at rooms message owner))
+    → AllShow ((after_at rooms message owner).alone place) (of_owner (Some place) (owners names (after_at rooms message owner) all) all)
+    → AllShow (rooms.alone place) (of_owner (Some place) (owner ∷ owners names (after_at rooms message owner) all) (message ∷ all))
+show_step names place rooms message all None is shows ih = ih
+show_step names place rooms message all (Some owner) is shows ih = show_by (eqb owner place) names rooms message owner place _ refl is shows ih
+
+shows_alone : (names : List (List ℕ)) (place : ℕ) (rooms : Rooms) (all : List Message) → AllShowGroups names rooms all (texts names rooms all)
+    → AllShow (rooms.alone place) (of_owner (Some place) (owners names rooms all) all)
+shows_alone names place rooms [] h = tt
+shows_alone names place rooms (message ∷ all) h =
+    show_step names place rooms message all (owner_of names rooms message) refl h.0 (shows_alone names place (rooms_after names rooms message) all h.1)
+
 -- ---- a run
+
+run_is : (alone : Alone) (messages : List Message) → alone_run alone messages ≡ (alone_texts alone messages, alone_end alone messages)
+run_is alone [] = refl
+run_is alone (message ∷ messages) = ap (λ (later : List (List ℕ) × Alone). (reply_text (alone_reply alone message) ∷ later.0, later.1)) (run_is (alone_after alone message) messages)
 
 pub run_from : (old new : WorldState) (messages : List Message) (ts : List (List ℕ)) → ts ≡ texts (names_of old) (rooms_of old) messages
     → AllShowGroups (names_of old) (rooms_of old) messages ts → rooms_of new ≡ rooms_end (names_of old) (rooms_of old) messages → IsRun (names_of old) (rooms_of old) messages ts (rooms_of new)
@@ -119,10 +165,15 @@ run_from old new messages ts replies shown rooms =
     let start = rooms_of old in
     record {
       count = ap length replies ∙ length-texts names start messages;
-      alone = λ place. ap (at_room place (owners names start messages)) replies ∙ alone_law names place start messages;
-      lone = ap (at_none (owners names start messages)) replies ∙ lone_law names start messages;
-      shown = shown;
-      after = λ place. ap (λ (r : Rooms). r.alone place) rooms ∙ end_law names place start messages;
+      alone = λ place.
+          let first = start.alone place in
+          let mine = of_owner (Some place) (owners names start messages) messages in
+          ap (λ (xs : List (List ℕ)). (xs, (rooms_of new).alone place)) (ap (of_owner (Some place) (owners names start messages)) replies ∙ alone_law names place start messages)
+          ∙ ap (λ (last : Alone). (alone_texts first mine, last)) (ap (λ (r : Rooms). r.alone place) rooms ∙ end_law names place start messages)
+          ∙ sym (run_is first mine);
+      lone = ap (of_owner None (owners names start messages)) replies ∙ lone_law names start messages;
+      shown = λ place. shows_alone names place start messages (subst (AllShowGroups names start messages) replies shown);
+      rooms = rooms;
     }
 
 -- ---- a run so far

@@ -9,10 +9,10 @@ use Rattle.wire.specs.Notes.{Notes, no_notes, note_of}
 use Rattle.wire_reader.specs.steps.Reads.{request_read, note_request_read}
 use Rattle.room_core.specs.Room.{Room, empty_room, with_entry}
 use Rattle.room_core.specs.Answers.{Outcome, has_site}
-use Rattle.world.specs.Alone.{Alone, Message, after_move, use_after_move, move_of, no_site, noted_by, notes_after_move, alone_answer, alone_after, alone_end, empty_alone}
-use Rattle.world.specs.Rooms.{AreEmpty, owners, at_room}
-use Rattle.world.specs.steps.Ends.{rooms_end}
-use Rattle.world.specs.steps.State.{uses_in, names_of, notes_of_rooms, empty_rooms, alone_at, rooms_of, new_world}
+use Rattle.world.specs.Alone.{Alone, Message, after_move, use_after_move, move_of, noted_by, notes_after_move, alone_answer, alone_after, empty_alone}
+use Rattle.world.specs.Rooms.{AreEmpty, owners, of_owner}
+use Rattle.world.specs.steps.Ends.{rooms_end, alone_end}
+use Rattle.world.specs.steps.State.{uses_in, names_of, notes_of_rooms, empty_rooms, alone_at, rooms_of, new_world, no_site}
 use Rattle.world.specs.steps.Seated.{IsSeated}
 use Rattle.world.proofs.Moves.{Moves, answer_moves, still_joined}
 use Rattle.world.proofs.UsedSites.{nobody_in}
@@ -195,7 +195,7 @@ seated_rooms names limits place messages =
     let start = rooms_of (new_world names limits) in
     let first = alone_at (new_world names limits) place in
     subst IsSeated (sym (end_law names place start messages))
-    (seated_end first (at_room place (owners names start messages) messages) (seated_if_empty first (free_at names limits place) (λ session. refl) (bare_at names limits place)))
+    (seated_end first (of_owner (Some place) (owners names start messages) messages) (seated_if_empty first (free_at names limits place) (λ session. refl) (bare_at names limits place)))
 
 -- a new world is empty rooms of its names
 pub names_new : (names : List (List ℕ)) (limits : LimitValues) → names_of (new_world names limits) ≡ names

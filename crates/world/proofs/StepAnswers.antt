@@ -1,6 +1,6 @@
 -- One message and its answer: what is shown of an object is shown of the message's own room.
 use Rattle.std.proofs.Common.{◌≡◌, ℕ, ◌<◌, Bool, false, cond, eqb, List, length, set, Option, Some, None, Result, Ok, Err, IfOk, OnOk, refl, sym, ap, ◌∙◌, subst}
-use Rattle.std.specs.Option.{option_map}
+use Rattle.std.specs.Option.{option_map, option_or}
 use Rattle.std.proofs.lemmas.Bool.{eq-eqb}
 use Rattle.base_types.specs.Names.{Name}
 use Rattle.base_types.specs.Texts.{Bytes}
@@ -21,11 +21,12 @@ use Rattle.room_core.specs.Shown.{HasObject}
 use Rattle.room_core.proofs.Shows.{IsShownBy, has_if_shown}
 use Rattle.world.specs.declared.seats.Asker.{Asker}
 use Rattle.world.specs.declared.seats.Seat.{Seat}
-use Rattle.world.specs.Alone.{Message, answer_to, no_site, notes_or_bad, use_after, move_of, noted_by, notes_after_move, alone_answer, alone_after}
-use Rattle.world.specs.Rooms.{Rooms, named_place, lone_answer, notes_refusal, owner_from, owner_of, reply_at, after_at, reply_to, rooms_after}
-use Rattle.world.specs.steps.State.{WorldState, names_of, no_room, rooms_in, room_at, uses_in, use_at, notes_of_rooms, notes_of, seat_of, site_at, alone_at, rooms_of}
-use Rattle.world.specs.steps.Steps.{place_answer, asker_of, IsTextFor, RepliesTo}
-use Rattle.world.specs.Shown.{OwnerHasObject, ShowsGroups}
+use Rattle.world.specs.Alone.{Message, answer_to, use_after_move, move_of, noted_by, notes_after_move, alone_answer, alone_after}
+use Rattle.world.specs.steps.Ends.{reply_at, reply_to}
+use Rattle.world.specs.Rooms.{Rooms, lone_answer, owner_of, after_at, rooms_after}
+use Rattle.world.specs.steps.State.{WorldState, names_of, no_room, rooms_in, room_at, uses_in, use_at, notes_of_rooms, notes_of, seat_of, site_at, alone_at, rooms_of, no_site}
+use Rattle.world.specs.steps.Steps.{place_answer, asker_of, IsTextFor, RepliesTo, named_place}
+use Rattle.world.specs.steps.OwnerShown.{OwnerHasObject, ShowsGroups}
 use Rattle.world.specs.steps.Runs.{IsStep}
 use Rattle.world.proofs.Places.{set_same}
 use Rattle.world.proofs.Changed.{owner_is, answer_is, asked_after, rooms_of-changed}
@@ -102,7 +103,7 @@ pub room_answer : (state : WorldState) (message : Message) (request : Request) (
     → names_of new ≡ names_of state
     → RepliesTo asker (place_answer state.rooms asker.place asker.site request).0 text state.seats new.seats
     → rooms_in new.rooms ≡ set (rooms_in state.rooms) asker.place (with_entry (room_at state.rooms asker.place) (place_answer state.rooms asker.place asker.site request).1)
-    → uses_in new.rooms ≡ set (uses_in state.rooms) asker.place (use_after (place_answer state.rooms asker.place asker.site request).0 asker.site (use_at state.rooms asker.place))
+    → uses_in new.rooms ≡ set (uses_in state.rooms) asker.place (use_after_move (move_of (place_answer state.rooms asker.place asker.site request).0) asker.site (use_at state.rooms asker.place))
     → notes_of_rooms new.rooms ≡ set (notes_of_rooms state.rooms) asker.place (notes_after_move (move_of (place_answer state.rooms asker.place asker.site request).0) asker.site (notes_of state.rooms asker.place))
     → IsStep state message text new
 room_answer state message request is_request asker found new text within legal names replies rooms uses notes =
@@ -129,17 +130,17 @@ module _ (state : WorldState) (message : Message) (request : NoteRequest)
     (no_request : request_read message.bytes ≡ None)
     (is_asked : note_request_read message.bytes ≡ Some request)
   where
-    owner_by : (seat : Option Seat) → seat_of state.seats message.session ≡ seat → owner_of (names_of state) (rooms_of state) message ≡ owner_from (option_map (λ (s : Seat). s.place) seat) None
+    owner_by : (seat : Option Seat) → seat_of state.seats message.session ≡ seat → owner_of (names_of state) (rooms_of state) message ≡ option_or (option_map (λ (s : Seat). s.place) seat) None
     owner_by seat e =
-        ap (λ s. owner_from (option_map (λ (s : Seat). s.place) s) (named_place (names_of state) (request_read message.bytes))) e
-        ∙ ap (λ r. owner_from (option_map (λ (s : Seat). s.place) seat) (named_place (names_of state) r)) no_request
+        ap (λ s. option_or (option_map (λ (s : Seat). s.place) s) (named_place (names_of state) (request_read message.bytes))) e
+        ∙ ap (λ r. option_or (option_map (λ (s : Seat). s.place) seat) (named_place (names_of state) r)) no_request
 
     -- of a session that is in no room
     pub outside_note : (text : List ℕ) → seat_of state.seats message.session ≡ None → IsTextFor text (No 0 NotJoined) → IsStep state message text state
     outside_note text out t =
         let owner = owner_by None out in
         refusal_answer state message NotJoined text
-        (ap (reply_at (rooms_of state) message) owner ∙ ap (λ r. lone_answer r (note_request_read message.bytes)) no_request ∙ ap (λ a. No 0 (notes_refusal a)) is_asked)
+        (ap (reply_at (rooms_of state) message) owner ∙ ap (λ r. lone_answer r (note_request_read message.bytes)) no_request ∙ ap (lone_answer None) is_asked)
         (ap (after_at (rooms_of state) message) owner) t
 
     module _ (seat : Seat) (inside : seat_of state.seats message.session ≡ Some seat) where
@@ -153,8 +154,8 @@ module _ (state : WorldState) (message : Message) (request : NoteRequest)
       outcome_is =
           let alone = alone_at state seat.place in
           ap (λ r. answer_to alone (alone.site_of message.session) r (note_request_read message.bytes)) no_request
-          ∙ ap (λ a. notes_or_bad alone.room alone.notes (alone.site_of message.session) a) is_asked
-          ∙ ap (λ who. notes_or_bad alone.room alone.notes who (Some request)) in_as
+          ∙ ap (λ a. answer_to alone (alone.site_of message.session) None a) is_asked
+          ∙ ap (λ who. answer_to alone who None (Some request)) in_as
 
       noted_is : noted_by (site_at seat.place (seat_of state.seats message.session)) (request_read message.bytes) (note_request_read message.bytes) (notes_of state.rooms seat.place)
           ≡ notes_after seat.site request (notes_of state.rooms seat.place)

@@ -5,8 +5,7 @@ use Rattle.std.specs.Io.KnownBytes.{Appends, Consumes, Keeps, IsAtEnd}
 use Rattle.byte_streams.specs.Prefixes.{AppendsPrefix}
 use Rattle.wire.specs.Lines.{lines_of}
 use Rattle.world.specs.steps.State.{WorldState, names_of, rooms_of}
-use Rattle.world.specs.Script.{AnswersScript}
-use Rattle.world.specs.steps.Endings.{Stops}
+use Rattle.world.specs.steps.Endings.{Stops, AnswersScript}
 use Rattle.world.specs.steps.Answered.{LinesShow, IsPastEnd, Wrote, WroteSome}
 use Rattle.world.proofs.ScriptForms.{script_run}
 use Rattle.world.proofs.Parts.{wrote_then, wrote_more, stops_of, stops_then, stops_front, stops_at_once, output_after, end_after, shown_after}

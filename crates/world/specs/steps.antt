@@ -4,4 +4,6 @@ pub mod Endings
 pub mod Answered
 pub mod Seated
 pub mod Runs
+pub mod Messages
 pub mod Ends
+pub mod OwnerShown

@@ -7,10 +7,10 @@ ghost use Rattle.rules.specs.declared.refusal.Refusal.{Refusal};
 ghost use Rattle.wire_reader.specs.steps.Reads.{request_read, note_request_read};
 ghost use Rattle.wire.specs.declared.reply.Reply.TheVariants.{No};
 ghost use Rattle.wire.specs.Entering.{room_to_enter};
-ghost use Rattle.world.specs.Alone.{Message, message_of};
-ghost use Rattle.world.specs.Rooms.{place_of, lone_refusal, notes_refusal, AreEmpty};
-ghost use Rattle.world.specs.steps.State.{WorldState, names_in, names_of, new_world, rooms_of};
-ghost use Rattle.world.specs.steps.Steps.{asker_of, IsTextFor};
+ghost use Rattle.world.specs.Alone.{Message};
+ghost use Rattle.world.specs.Rooms.{place_of, AreEmpty};
+ghost use Rattle.world.specs.steps.State.{WorldState, names_in, names_of, new_world, rooms_of, message_of};
+ghost use Rattle.world.specs.steps.Steps.{asker_of, lone_refusal, IsTextFor};
 ghost use Rattle.world.specs.steps.Runs.{IsStep, AnswersSomeOf};
 
 mod fault;

@@ -9,9 +9,9 @@ ghost use Rattle.room_core.specs.Room.{with_entry};
 ghost use Rattle.room_core.specs.steps.Plans.{IsPlanReady, Plans, entry_added};
 ghost use Rattle.notes.specs.Notes.{notes_at};
 ghost use Rattle.world.specs.Rooms.{place_of};
-ghost use Rattle.world.specs.Alone.{move_of, notes_after_move, outside_answer, use_after};
+ghost use Rattle.world.specs.Alone.{move_of, notes_after_move, use_after_move};
 ghost use Rattle.world.specs.steps.State.{Named, names_in, rooms_in, room_at, is_used, uses_in, use_at, notes_of_rooms, notes_of, empty_rooms};
-ghost use Rattle.world.specs.steps.Steps.{asker_answer, place_answer, IsTextFor, RepliesTo};
+ghost use Rattle.world.specs.steps.Steps.{outside_answer, asker_answer, place_answer, IsTextFor, RepliesTo};
 
 use crate::seats::{Asker, Seat, move_of, move_seat};
 use crate::sites::SitesInUse;
@@ -215,7 +215,8 @@ impl NamedRoom {
             OnOk result (self.new.room ≡ with_entry self.old.room added) }
         ensures in_use { let in_use = is_used self.old.in_use in
             let reply = (asker_answer self.old.room in_use asker.site request).0 in
-            OnOk result (is_used self.new.in_use ≡ use_after reply asker.site in_use) }
+            OnOk result
+            (is_used self.new.in_use ≡ use_after_move (move_of reply) asker.site in_use) }
         ensures notes { let in_use = is_used self.old.in_use in
             let reply = (asker_answer self.old.room in_use asker.site request).0 in
             let was = notes_at self.old.notes in
@@ -278,7 +279,7 @@ pub(crate) fn answer_at(
         let others = rooms_in rooms.old.items in
         OnOk result (rooms_in rooms.new.items ≡ slice_set others asker.place after) }
     ensures uses { let reply = (place_answer rooms.old.items asker.place asker.site request).0 in
-        let after = use_after reply asker.site (use_at rooms.old.items asker.place) in
+        let after = use_after_move (move_of reply) asker.site (use_at rooms.old.items asker.place) in
         let others = uses_in rooms.old.items in
         OnOk result (uses_in rooms.new.items ≡ slice_set others asker.place after) }
     ensures notes { let reply = (place_answer rooms.old.items asker.place asker.site request).0 in

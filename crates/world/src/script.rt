@@ -4,11 +4,10 @@ ghost use Rattle.std.specs.Prelude.{◌≡◌, ◌≢◌, ◌⊎◌, ℕ, List, 
 ghost use Rattle.std.specs.Fmt.{decimal};
 ghost use Rattle.std.specs.Io.KnownBytes.{Appends, IsAtEnd, Keeps};
 ghost use Rattle.wire.specs.steps.OneLine.{IsOneLine};
-ghost use Rattle.world.specs.Alone.{message_of};
-ghost use Rattle.world.specs.steps.State.{names_of, rooms_of};
+ghost use Rattle.world.specs.steps.State.{names_of, rooms_of, message_of};
 ghost use Rattle.byte_streams.specs.Prefixes.{AppendsPrefix};
-ghost use Rattle.world.specs.Script.{message_in, AnswersScript};
-ghost use Rattle.world.specs.steps.Endings.{Stops, AnswersRead};
+ghost use Rattle.world.specs.steps.Messages.{message_in};
+ghost use Rattle.world.specs.steps.Endings.{Stops, AnswersRead, AnswersScript};
 ghost use Rattle.world.specs.steps.Answered.{kept_part, line_text, IsHeld, IsPastLine, IsPastEnd, Adds, AnswersSome, Hands, Wrote, WroteSome};
 ghost use Rattle.world.specs.steps.Ends.{output_of};
 

@@ -1,10 +1,23 @@
 -- How commands may end: their exit statuses, and why early.
 use Rattle.std.specs.Prelude.{◌≡◌, ◌⊎◌, ℕ, List, Option, Some, None, Result, Ok, Err}
-use Rattle.std.specs.Io.KnownBytes.{Keeps}
+use Rattle.std.specs.Io.KnownBytes.{Appends, Keeps}
+use Rattle.byte_streams.specs.Prefixes.{AppendsPrefix}
 use Rattle.command_fault.specs.declared.fault.Fault.{Fault}
 use Rattle.command_fault.specs.declared.fault.Fault.TheVariants.{Input, Output, NoMemory}
 use Rattle.command_fault.specs.steps.Faults.{status_of}
 use Rattle.commands.specs.Names.{mistake_in}
+use Rattle.commands.specs.Reports.{Report, SomeRight}
+
+-- the text of a right result was appended, and this is its status
+abbrev pub Tells : {Input Found : Type 0} → Report Input Found → Option (List ℕ) → Option (List ℕ)
+    → ℕ → Input → Type 0
+Tells report before after status =
+    SomeRight report (λ said. Appends before after said.0 × (status ≡ said.1))
+
+-- a prefix of the text of a right result was appended
+abbrev pub TellsPrefix : {Input Found : Type 0} → Report Input Found → Option (List ℕ)
+    → Option (List ℕ) → Input → Type 0
+TellsPrefix report before after = SomeRight report (λ said. AppendsPrefix before after said.0)
 
 -- an exit status after a result
 abbrev pub IsOfResult : ℕ → Type 0

@@ -1,10 +1,15 @@
--- Parts that together added all entries of a record but its end.
-use Rattle.std.specs.Prelude.{◌≡◌, ◌≤◌, List, Some, map, sum_by}
+-- What parts say, and parts that together added all entries of a record but its end.
+use Rattle.std.specs.Prelude.{◌≡◌, ◌≤◌, ℕ, List, Some, map, sum_by}
 use Rattle.rules.specs.declared.history.Entry.{Entry}
 use Rattle.room_lock.specs.Sites.{count_of_sites, count_of_site}
 use Rattle.room_lock.specs.Passes.{PartView}
 use Rattle.room_lock.specs.Shelves.{Shelf}
-use Rattle.room_lock.specs.Closing.{added_of}
+
+abbrev pub site_of : PartView → ℕ
+site_of part = part.site
+
+abbrev pub added_of : PartView → ℕ
+added_of part = part.added
 
 -- the part has seen at least as many entries of its site as it added
 abbrev pub HasItsEntries : PartView → Type 0

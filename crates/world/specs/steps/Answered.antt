@@ -7,11 +7,11 @@ use Rattle.wire.specs.steps.OneLine.{IsOneLine}
 use Rattle.wire.specs.Texts.{reply_text}
 use Rattle.world.specs.declared.script.TheConstants.{LINE_LIMIT}
 use Rattle.world.specs.Alone.{Message}
-use Rattle.world.specs.Rooms.{Rooms, reply_to}
+use Rattle.world.specs.Rooms.{Rooms}
 use Rattle.world.specs.steps.State.{WorldState, names_of, rooms_of}
-use Rattle.world.specs.Shown.{ShowsGroups}
-use Rattle.world.specs.Script.{message_in, text_for, rooms_for, lines_out, lines_end}
-use Rattle.world.specs.steps.Ends.{end_of}
+use Rattle.world.specs.steps.OwnerShown.{ShowsGroups}
+use Rattle.world.specs.steps.Messages.{message_in}
+use Rattle.world.specs.steps.Ends.{end_of, reply_to, text_for, rooms_for, lines_out, lines_end}
 
 -- as much of a line as is kept
 abbrev pub kept_part : List ℕ → List ℕ

@@ -3,9 +3,10 @@ use Rattle.std.specs.Prelude.{ℕ, ◌≡◌, List, [], ◌∷◌, length, Optio
 use Rattle.wire.specs.Texts.{reply_text}
 use Rattle.wire_reader.specs.steps.Reads.{reply_read}
 use Rattle.world.specs.Alone.{Message}
-use Rattle.world.specs.Rooms.{reply_to, rooms_after}
+use Rattle.world.specs.steps.Ends.{reply_to}
+use Rattle.world.specs.Rooms.{rooms_after}
 use Rattle.world.specs.steps.State.{WorldState, names_of, rooms_of}
-use Rattle.world.specs.Shown.{ShowsGroups}
+use Rattle.world.specs.steps.OwnerShown.{ShowsGroups}
 use Rattle.world.specs.Run.{IsRun}
 
 -- In this state a message is answered by this text, and the state is then the new one.

@@ -8,8 +8,11 @@ use Rattle.wire.specs.Notes.{Notes, no_notes}
 use Rattle.notes.specs.Notes.{NotePlaces, notes_at}
 use Rattle.room_core.specs.Room.{Room, empty_room}
 use Rattle.world.specs.declared.seats.Seat.{Seat}
-use Rattle.world.specs.Alone.{Alone, no_site}
+use Rattle.world.specs.Alone.{Alone, Message}
 use Rattle.world.specs.Rooms.{Rooms}
+
+abbrev pub message_of : ℕ → List ℕ → Message
+message_of session bytes = record { session = session; bytes = bytes }
 
 -- a room under its name, for each site whether somebody is in as it, and the notes
 pub record Named : Type 0 where
@@ -52,6 +55,10 @@ is_used in_use site = slice_index_or in_use site false
 -- the list where nobody is in
 unfoldable pub no_sites : List Bool
 no_sites = replicate (MAX_SITE + 1) false
+
+-- no site is in use
+abbrev pub no_site : ℕ → Bool
+no_site site = false
 
 -- the sites in use, of the room at a place
 abbrev pub uses_in : List Named → List (ℕ → Bool)

@@ -7,7 +7,8 @@ use Rattle.base_types.specs.Texts.{Bytes}
 use Rattle.room_core.specs.declared.room.RoomState.{RoomState}
 use Rattle.openings.specs.Openings.{OpeningView}
 use Rattle.room_lock.specs.Passes.{PrefixView}
-use Rattle.room_lock.specs.InOrder.{AreInOrder, openings_of}
+use Rattle.room_lock.specs.InOrder.{AreInOrder}
+use Rattle.room_lock.specs.steps.InOrder.{openings_of}
 use Rattle.room_lock.proofs.InOrder.{more_in_order}
 use Rattle.room_lock.proofs.Names.{name_is_new, place_of_next}
 use Rattle.room_lock.proofs.making.make.Goals as goal

@@ -3,7 +3,8 @@ use Rattle.indexmap.specs.IndexMap.{keys}
 use Rattle.base_types.specs.Repeats.{repeat_from}
 use Rattle.room_core.specs.declared.room.RoomState.{RoomState}
 use Rattle.room_lock.specs.Passes.{PrefixView}
-use Rattle.room_lock.specs.InOrder.{AreInOrder, openings_in, openings_of}
+use Rattle.room_lock.specs.InOrder.{AreInOrder}
+use Rattle.room_lock.specs.steps.InOrder.{openings_in, openings_of}
 use Rattle.room_lock.proofs.making.make.Given as goal
 
 abbrev pub invariant-loop-state : goal.invariant-loop-state

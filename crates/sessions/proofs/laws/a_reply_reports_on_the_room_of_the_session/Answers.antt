@@ -1,6 +1,7 @@
 use Rattle.room_lock.specs.Calls.{IsBack, IsRefusalOver}
 use Rattle.sessions.specs.Sessions.{host_of}
-use Rattle.sessions.specs.Entering.{IsBackRefusal, IsPermittedJoin}
+use Rattle.sessions.specs.Entering.{IsPermittedJoin}
+use Rattle.sessions.proofs.Entering.{IsBackRefusal}
 use Rattle.sessions.proofs.Staying.{told_of, turn_told}
 use Rattle.sessions.proofs.laws.a_reply_reports_on_the_room_of_the_session.Goals as goal
 

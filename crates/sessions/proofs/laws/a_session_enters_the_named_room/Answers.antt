@@ -1,6 +1,7 @@
 use Rattle.room_lock.specs.Calls.{IsBack, IsRefusalOver}
 use Rattle.sessions.specs.Sessions.{host_of}
-use Rattle.sessions.specs.Entering.{IsBackRefusal, IsPermittedJoin}
+use Rattle.sessions.specs.Entering.{IsPermittedJoin}
+use Rattle.sessions.proofs.Entering.{IsBackRefusal}
 use Rattle.sessions.proofs.Staying.{let_in}
 use Rattle.sessions.proofs.laws.a_session_enters_the_named_room.Goals as goal
 

@@ -1,8 +1,7 @@
 use Rattle.std.proofs.Common.{◌≡◌, Some, sym, refl, ◌∙◌, string_bytes}
 use Rattle.std.proofs.lemmas.Result.{on_err_weaker}
 use Rattle.wire_reader.specs.steps.Reads.{request_read}
-use Rattle.world.specs.Alone.{message_of}
-use Rattle.world.specs.steps.State.{names_of, seat_of}
+use Rattle.world.specs.steps.State.{names_of, seat_of, message_of}
 use Rattle.world.specs.steps.Steps.{asker_of}
 use Rattle.world.proofs.Places.{same_length}
 use Rattle.world.proofs.SeatMaps.{seats_within, state_of, moves_of}

@@ -1,5 +1,5 @@
 use Rattle.std.proofs.Common.{◌≡◌, ◌<◌, ◌^◌, drop}
-use Rattle.world.specs.Script.{number_then, message_in}
+use Rattle.world.specs.steps.Messages.{message_in, number_then}
 use Rattle.world.proofs.script.message_in.Given as goal
 
 abbrev pub invariant-loop-place : goal.invariant-loop-place

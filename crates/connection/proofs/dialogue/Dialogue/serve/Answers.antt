@@ -1,20 +1,17 @@
-use Rattle.std.proofs.Common.{rules, ◌≡◌, ◌∷◌, [], ◌++◌, arith, length, length-drop, ap, Ok, true, false}
+use Rattle.std.proofs.Common.{rules, ◌≡◌, ◌∷◌, [], ◌++◌, arith, length, length-drop, ap, Ok, true, false, refl}
 use Rattle.websocket.proofs.StreamLemmas.{TookFrame_from_read}
-use Rattle.connection.proofs.Runs.{runs_snoc, served_snoc}
+use Rattle.connection.proofs.Runs.{served_snoc}
+use Rattle.connection.specs.steps.States.{state_of}
 use Rattle.connection.proofs.dialogue.Dialogue.serve.Goals as goal
 
 pub returns-in-Err-clause-err : goal.returns-in-Err-clause-err
 returns-in-Err-clause-err g c =
-    let inv = c.loop-self.invariant in
-    record {
-      frames = inv.0;
-      reached = c.loop-self.context;
-      rest = c.loop-self.input;
-      mid = c.loop-self.self;
-      read = inv.1;
-      served = inv.2;
-      ends = c.in-Err.ensures.err;
-    }
+    let inv = c.loop-self.invariant in (
+      inv.0,
+      state_of c.loop-self.context c.loop-self.input c.loop-self.self,
+      inv.1,
+      c.in-Err.ensures.err,
+    )
 
 pub loop-self-smaller : goal.loop-self-smaller
 loop-self-smaller g c =
@@ -31,6 +28,7 @@ loop-self-preserved g c =
     let ok : c.serve_frame.result ≡ Ok true = cc in
     let done = c.serve_frame.ensures.served ok in (
       inv.0 ++ done.0 ∷ [],
-      runs_snoc _ c.loop-self.context _ _ c.loop-self.input _ inv.0 done.0 inv.1 done.1 done.2 done.3,
-      served_snoc (g.T.Talk.turn talk) (g.T.Talk.waits talk) (g.T.Talk.blocks talk) inv.0 done.0 _ c.loop-self.self _ inv.2 (c.is_paused.ensures.serves may) done.4,
+      served_snoc (g.T.Talk.turn talk) (g.T.Talk.waits talk) (g.T.Talk.blocks talk) inv.0 done.0 (state_of c.args.context.now c.args.input.now c.args.self.now) (state_of c.loop-self.context c.loop-self.input c.loop-self.self)
+          (state_of c.serve_frame.new.context c.serve_frame.new.input c.serve_frame.new.self) c.serve_frame.new.self inv.1
+          (c.is_paused.ensures.serves may) done.1 done.4 (rw (done.2, done.3) refl),
     )

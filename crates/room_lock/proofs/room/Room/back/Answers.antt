@@ -24,7 +24,7 @@ invariant_of-part g c =
     let part = c.in-Some-take_part.part in
     let kept = c.self.invariant.0.shelved.parts c.args.site part (sym c.in-Some-take_part.ensures.part) in
     let now = ap (λ v. v.entries) c.prefix.ensures in
-    let begins = subst (λ (l : List Entry). IsPrefix l c.prefix.result.entries) (sym (ap (λ v. v.seen) c.part.view_is)) (subst (λ (l : List Entry). IsPrefix part.seen l) (sym now) kept.seen) in
+    let begins = subst (λ (l : List Entry). IsPrefix l c.prefix.result.entries) (sym (ap (λ v. v.seen) c.part.view_is)) (subst (λ (l : List Entry). IsPrefix part.seen l) (sym now) kept.2) in
     let more = count_of_front c.part.inside.site c.part.inside.seen.entries c.prefix.result.entries begins in
     omega (arith, c.part.invariant, more)
 
@@ -73,11 +73,9 @@ returns-clause-entered g c =
           let back : IsBackOver limits r c.args.site part pass w.back-reply.result = record {
             joined = and_from _ _ (le-leb 1 c.args.site found.0) (le-leb c.args.site _ (omega (arith, found.1, counted)));
             reply_is = w.back-reply.ensures ∙ ap (λ room. back_reply room false c.args.site) (room_is limits c.self.inside.state.room c.self.invariant.0.limits_are);
-            was_of = (kept.site_is, kept.opening_is ∙ sym (ap (λ v. v.opening) w.prefix.ensures));
-            begins = kept.seen;
-            site_is = ap (λ v. v.site) w.part.view_is ∙ kept.site_is;
-            seen = ap (λ v. v.entries) w.prefix.ensures;
-            added = ap (λ v. v.added) w.part.view_is;
+            was_of = kept.1;
+            begins = kept.2;
+            part_is = λ i. record { opening = (ap (λ v. v.opening) w.prefix.ensures ∙ sym kept.0) i; site = (w.part.view_is i).site; seen = (w.prefix.ensures i).entries; added = (w.part.view_is i).added };
             legal = subst (λ (l : LimitValues). IsLegal l r) c.self.invariant.0.limits_are c.len_of-entries.ensures.legal;
           } in
           let here : P (record { opening = c.self.inside.opening; entries = r; shelf = c.self.inside.shelf.items; notes = c.self.inside.notes }) pass w.back-reply.result =

@@ -6,8 +6,8 @@ use Rattle.rules.specs.declared.history.Entry.{Entry}
 use Rattle.rules.specs.declared.limits.LimitValues.{LimitValues}
 use Rattle.rules.specs.Records.{IsLegal}
 use Rattle.room_lock.specs.Sites.{count_of_sites}
-use Rattle.room_lock.specs.Closing.{IsClosed, added_of}
-use Rattle.room_lock.specs.steps.Closing.{HasItsEntries, IsComplete}
+use Rattle.room_lock.specs.Closing.{IsClosed}
+use Rattle.room_lock.specs.steps.Closing.{HasItsEntries, IsComplete, added_of}
 use Rattle.room_lock.specs.steps.Kept.{RoomView}
 use Rattle.room_lock.proofs.Closed.{absent_one, closed_by, other_sum}
 use Rattle.room_lock.proofs.room.Room.close.Goals as goal

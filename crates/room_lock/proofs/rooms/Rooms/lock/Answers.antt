@@ -1,5 +1,5 @@
 use Rattle.std.proofs.Common.{ap, sym, ◌∙◌}
-use Rattle.room_lock.specs.InOrder.{number_of}
+use Rattle.room_lock.specs.steps.InOrder.{number_of}
 use Rattle.room_lock.proofs.InOrder.{number_is_place}
 use Rattle.room_lock.proofs.rooms.Rooms.lock.Goals as goal
 

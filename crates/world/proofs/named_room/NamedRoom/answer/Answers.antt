@@ -5,7 +5,7 @@ use Rattle.room_core.specs.Answers.{Outcome}
 use Rattle.room_core.specs.steps.Plans.{outcome, entry_added}
 use Rattle.room_core.specs.State.{DrawingState}
 use Rattle.notes.specs.Notes.{notes_at}
-use Rattle.world.specs.Alone.{move_of, notes_after_move, use_after, use_after_move}
+use Rattle.world.specs.Alone.{move_of, notes_after_move, use_after_move}
 use Rattle.world.specs.steps.State.{is_used}
 use Rattle.world.specs.steps.Steps.{RepliesTo}
 use Rattle.world.proofs.AnswerRanges.{InRange, sound_room, answer_in_range, in_range_after, moved_in_range}
@@ -51,7 +51,7 @@ returns-clause-in_use c =
     rw (← c.self.view_is)
     (c.follow.ensures
     ∙ ap (λ (move : Option (Option ℕ)). use_after_move move was in_use) (c.move_of-moved.ensures ∙ ap move_of c.reply.ensures)
-    ∙ ap (λ (o : Outcome). use_after o.0 was in_use) c.in_ok-planned.ensures.0.0)
+    ∙ ap (λ (o : Outcome). use_after_move (move_of o.0) was in_use) c.in_ok-planned.ensures.0.0)
 
 pub returns-clause-notes : goal.returns-clause-notes
 returns-clause-notes c =

@@ -37,8 +37,8 @@ lacks_another h op =
     list_any (λ name. not (name.0 == op.name.0) && not (is_some (operation h name)))
     (names_counted op.seen)
 
--- the entry is no repeat, and something that it depends on was not taken: its site's join, the site's
--- previous operation, or an operation of another site that it counts
+-- of an entry that is no repeat: something that it depends on was not taken, which is its site's join,
+-- the site's previous operation, or an operation of another site that it counts
 abbrev pub is_early : List Entry → Entry → Bool
 is_early t (Operation op) =
     not (has_joined t op.name.0) || has_wrong_seq (operations t) op.name

@@ -5,7 +5,7 @@ use Rattle.world.specs.Alone.{Message, alone_run}
 use Rattle.world.specs.Rooms.{Rooms, rooms_after, owners, of_owner, lone_reply}
 use Rattle.world.specs.Shown.{AllShow}
 
--- In rooms of these names these messages are answered by these texts, and the rooms are then new.
+-- in rooms of these names these messages have these answers, and the rooms are then the new ones
 pub record IsRun (names : List (List ℕ)) (old : Rooms) (messages : List Message)
     (texts : List (List ℕ)) (new : Rooms) : Type 0 where
   pub count : length texts ≡ length messages

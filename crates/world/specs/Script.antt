@@ -20,7 +20,7 @@ output_lines (Some message ∷ lines) [] = []
 output_lines (Some message ∷ lines) (text ∷ texts) =
     decimal message.session ++ (32 ∷ text) ++ 10 ∷ output_lines lines texts
 
--- In rooms of these names these lines are answered by this text, and the rooms are then new.
+-- in rooms of these names these lines have this answer, and the rooms are then the new ones
 pub record IsScriptRun (names : List (List ℕ)) (old : Rooms) (lines : List (List ℕ))
     (text : List ℕ) (new : Rooms) : Type 0 where
   pub replies : List (List ℕ)

@@ -81,6 +81,15 @@ pub(crate) fn repeated_key(pairs: &[(Key, Value)]) -> Option<usize>
     None
 }
 
+/// Returns an equal copy.
+fn copy_pair(alloc: Global, pair: &(Key, Value)) -> Result<(Key, Value), NoMemory>
+    ensures { IfOk result (λ copy. copy ≡ pair.now) }
+{
+    let key = pair.0.copy(alloc)?;
+    let value = pair.1.copy(alloc)?;
+    Ok((key, value))
+}
+
 /// Other ones that are equal to these pairs.
 pub(crate) fn copy_pairs(
     alloc: Global,
@@ -90,7 +99,7 @@ pub(crate) fn copy_pairs(
 {
     let mut copies = Vec::with_capacity(alloc, pairs.len())?;
     for pair in pairs {
-        copies.push((pair.0.copy(alloc)?, pair.1.copy(alloc)?))?;
+        copies.push(copy_pair(alloc, pair)?)?;
     }
     Ok(copies)
 }

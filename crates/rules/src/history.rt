@@ -1,6 +1,7 @@
 //! Operations, and the entries of a room's record.
 
 ghost use Rattle.std.specs.Prelude.{◌≡◌, true, IfOk};
+ghost use Rattle.rules.specs.declared.history.Body.TheVariants.{New, Put};
 ghost use Rattle.rules.specs.Bodies.{are_at_odds, is_change_body, is_drop_body, pairs_of_body, version_of_body};
 ghost use Rattle.rules.specs.Operations.{object_of};
 ghost use Rattle.rules.specs.Records.{is_end, is_join};
@@ -31,6 +32,33 @@ pub enum Body {
     },
 }
 
+/// An equal creation.
+fn copy_new(alloc: Global, kind: &Kind, attrs: &Attrs) -> Result<Body, NoMemory>
+    ensures { IfOk result (λ body. body ≡ New kind.now attrs.now) }
+{
+    let kind = kind.copy(alloc)?;
+    let attrs = attrs.copy(alloc)?;
+    Ok(Body::New { kind, attrs })
+}
+
+/// An equal put.
+fn copy_put(
+    alloc: Global,
+    object: OpName,
+    version: &VersionId,
+    pairs: &Pairs,
+) -> Result<Body, NoMemory>
+    ensures { IfOk result (λ body. body ≡ Put object version.now pairs.now) }
+{
+    let version = version.copy(alloc)?;
+    let pairs = pairs.copy(alloc)?;
+    Ok(Body::Put {
+        object,
+        version,
+        pairs,
+    })
+}
+
 impl Body {
     /// Returns an equal copy.
     ///
@@ -41,19 +69,12 @@ impl Body {
         ensures { IfOk result (λ body. body ≡ self.now) }
     {
         match self {
-            Body::New { kind, attrs } => Ok(Body::New {
-                kind: kind.copy(alloc)?,
-                attrs: attrs.copy(alloc)?,
-            }),
+            Body::New { kind, attrs } => copy_new(alloc, kind, attrs),
             Body::Put {
                 object,
                 version,
                 pairs,
-            } => Ok(Body::Put {
-                object: *object,
-                version: version.copy(alloc)?,
-                pairs: pairs.copy(alloc)?,
-            }),
+            } => copy_put(alloc, *object, version, pairs),
             Body::DropVersion { object, version } => Ok(Body::DropVersion {
                 object: *object,
                 version: version.copy(alloc)?,

@@ -1,6 +1,6 @@
 //! The initial attributes of an object.
 
-ghost use Rattle.std.specs.Prelude.{◌≡◌, List, true, false, IfOk, OnErr, OnOk, bytes_eq};
+ghost use Rattle.std.specs.Prelude.{◌≡◌, ◌++◌, ◌∷◌, [], List, true, false, IfOk, OnErr, OnOk, bytes_eq};
 ghost use Rattle.std.specs.List.{list_any};
 ghost use Rattle.std.specs.Result.{result_err};
 ghost use Rattle.base_types.specs.Repeats.{first_repeat};
@@ -81,13 +81,18 @@ pub(crate) fn repeated_key(pairs: &[(Key, Value)]) -> Option<usize>
     None
 }
 
-/// Returns an equal copy.
-fn copy_pair(alloc: Global, pair: &(Key, Value)) -> Result<(Key, Value), NoMemory>
-    ensures { IfOk result (λ copy. copy ≡ pair.now) }
+/// Appends an equal copy of the pair.
+fn push_copy(
+    alloc: Global,
+    copies: &mut Vec<(Key, Value)>,
+    pair: &(Key, Value),
+) -> Result<(), NoMemory>
+    ensures { OnOk result (copies.new.items ≡ copies.old.items ++ pair.now ∷ []) }
 {
     let key = pair.0.copy(alloc)?;
     let value = pair.1.copy(alloc)?;
-    Ok((key, value))
+    copies.push((key, value))?;
+    Ok(())
 }
 
 /// Other ones that are equal to these pairs.
@@ -99,7 +104,7 @@ pub(crate) fn copy_pairs(
 {
     let mut copies = Vec::with_capacity(alloc, pairs.len())?;
     for pair in pairs {
-        copies.push(copy_pair(alloc, pair)?)?;
+        push_copy(alloc, &mut copies, pair)?;
     }
     Ok(copies)
 }

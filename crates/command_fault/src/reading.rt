@@ -1,6 +1,6 @@
 //! Reading input whole.
 
-ghost use Rattle.std.specs.Prelude.{◌≡◌, ◌≤◌, ◌⊎◌, IfErr, IfOk, IfSome, OnOk, length};
+ghost use Rattle.std.specs.Prelude.{◌≡◌, ◌≤◌, ◌++◌, ◌⊎◌, IfErr, IfOk, IfSome, OnOk, length};
 ghost use Rattle.std.specs.Io.KnownBytes.{IsAtEnd};
 
 use crate::fault::Fault;
@@ -31,16 +31,29 @@ pub fn read_up_to<R: Read>(alloc: Global, input: &mut R, limit: usize) -> Result
     for _ in 0..u64::MAX {
         match input.read(piece) {
             Ok(0) => return Ok(bytes),
-            Ok(count) => {
-                if count > limit - bytes.len() {
-                    return Err(Fault::Input);
-                }
-                bytes.extend_from_slice(&piece[..count])?;
-            }
+            Ok(count) => push_piece(&mut bytes, &piece[..count], limit)?,
             Err(_fault) => return Err(Fault::Input),
         }
     }
     Err(Fault::Input)
+}
+
+/// Appends the piece, if there are then at most `limit` bytes.
+///
+/// # Errors
+/// `Input` if there would be more.
+/// `NoMemory` if an allocation failed.
+fn push_piece(bytes: &mut Vec<u8>, piece: &[u8], limit: usize) -> Result<(), Fault>
+    requires { length bytes.old.items ≤ limit }
+    ensures all { OnOk result (bytes.new.items ≡ bytes.old.items ++ piece.now) }
+    ensures most { OnOk result (length bytes.new.items ≤ limit) }
+    ensures fault { IfErr result (λ fault. (fault ≡ Fault.Input) ⊎ (fault ≡ Fault.NoMemory)) }
+{
+    if piece.len() > limit - bytes.len() {
+        return Err(Fault::Input);
+    }
+    bytes.extend_from_slice(piece)?;
+    Ok(())
 }
 
 /// A buffer for one read.

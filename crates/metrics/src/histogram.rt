@@ -1,7 +1,7 @@
 //! The samples of a histogram of times.
 
-ghost use Rattle.std.specs.Prelude.{◌≡◌, IfOk, string_bytes};
-ghost use Rattle.metrics.specs.Histograms.{histogram_samples, bucket_sample};
+ghost use Rattle.std.specs.Prelude.{◌≡◌, ◌++◌, ◌∷◌, [], IfOk, OnOk, codes, string_bytes};
+ghost use Rattle.metrics.specs.Histograms.{bucket_sample, bucket_samples, count_in, histogram_samples, told_count};
 
 use crate::family::{Label, Sample, Suffix};
 use crate::number::Number;
@@ -34,24 +34,59 @@ pub fn histogram_samples(
     ensures { IfOk result (λ samples. samples.items ≡ histogram_samples buckets.now above sum) }
 {
     let mut samples = Vec::with_capacity(alloc, buckets.len().saturating_add(3))?;
+    let counted = push_buckets(alloc, &mut samples, buckets)?;
+    push_totals(alloc, &mut samples, counted.saturating_add(above), sum)?;
+    Ok(samples)
+}
+
+/// Appends the samples of the buckets. Returns the count of the last.
+fn push_buckets(
+    alloc: Global,
+    samples: &mut Vec<Sample>,
+    buckets: &[Bucket],
+) -> Result<u64, NoMemory>
+    ensures { IfOk result (λ count. (count ≡ told_count (count_in buckets.now))
+        × (samples.new.items ≡ samples.old.items ++ bucket_samples [] buckets.now)) }
+{
     let mut count: u64 = 0;
     for bucket in buckets {
         count = count.saturating_add(bucket.count);
         let bound = format!(in alloc; "{}", Number::Micros(bucket.bound))?;
-        samples.push(bucket_sample(alloc, bound, count)?)?;
+        push_bucket(alloc, samples, bound, count)?;
     }
-    count = count.saturating_add(above);
-    let bound = String::from_str(alloc, "+Inf")?;
-    samples.push(bucket_sample(alloc, bound, count)?)?;
-    samples.push(Sample::new(Suffix::Sum, Vec::new(alloc), Number::Micros(sum)))?;
-    samples.push(Sample::new(Suffix::Count, Vec::new(alloc), Number::Whole(count)))?;
-    Ok(samples)
+    Ok(count)
 }
 
-/// The sample of a bucket with this bound.
-fn bucket_sample(alloc: Global, bound: String, count: u64) -> Result<Sample, NoMemory>
-    ensures { IfOk result (λ sample. sample ≡ bucket_sample (string_bytes bound) count) }
+/// Appends the bucket of all times, their sum and their number.
+fn push_totals(
+    alloc: Global,
+    samples: &mut Vec<Sample>,
+    count: u64,
+    sum: u64,
+) -> Result<(), NoMemory>
+    ensures { OnOk result (samples.new.items ≡ samples.old.items
+        ++ bucket_sample (codes "+Inf") count
+        ∷ record { suffix = Suffix.Sum; labels = []; number = Number.Micros sum }
+        ∷ record { suffix = Suffix.Count; labels = []; number = Number.Whole count }
+        ∷ []) }
+{
+    push_bucket(alloc, samples, String::from_str(alloc, "+Inf")?, count)?;
+    samples.push(Sample::new(Suffix::Sum, Vec::new(alloc), Number::Micros(sum)))?;
+    samples.push(Sample::new(Suffix::Count, Vec::new(alloc), Number::Whole(count)))?;
+    Ok(())
+}
+
+/// Appends the sample of a bucket with this bound.
+fn push_bucket(
+    alloc: Global,
+    samples: &mut Vec<Sample>,
+    bound: String,
+    count: u64,
+) -> Result<(), NoMemory>
+    ensures { OnOk result (samples.new.items
+        ≡ samples.old.items ++ bucket_sample (string_bytes bound) count ∷ []) }
 {
     let labels = vec![in alloc; Label::new("le", bound)]?;
-    Ok(Sample::new(Suffix::Bucket, labels, Number::Whole(count)))
+    samples.push(Sample::new(Suffix::Bucket, labels, Number::Whole(count)))?;
+    Ok(())
 }

@@ -1,8 +1,8 @@
 //! The text of families.
 
-ghost use Rattle.std.specs.Prelude.{◌≡◌, ◌++◌, IfOk, OnOk, string_bytes};
+ghost use Rattle.std.specs.Prelude.{◌≡◌, ◌++◌, IfOk, OnOk, codes, string_bytes};
 ghost use Rattle.std.specs.List.{flat_map};
-ghost use Rattle.metrics.specs.Families.{families_text, family_head, family_text};
+ghost use Rattle.metrics.specs.Families.{families_text, family_head, family_text, help_byte};
 ghost use Rattle.metrics.specs.Families.{label_text, labels_text, sample_text};
 
 use crate::escape::{Place, push_escaped};
@@ -41,11 +41,19 @@ fn push_head(output: &mut String, family: &Family) -> Result<(), NoMemory>
     ensures { OnOk result
         (string_bytes output.new ≡ string_bytes output.old ++ family_head family.now) }
 {
+    push_help(output, family.name, family.help)?;
     let (name, kind) = (family.name, family.kind.word());
-    write!(output, "# HELP {name} ")?;
-    push_escaped(output, Place::Help, family.help)?;
     write!(output, "\n# TYPE {name} {kind}\n")?;
     Ok(())
+}
+
+/// Appends the line of the help of the family of this name, without its end.
+fn push_help(output: &mut String, name: &str, help: &str) -> Result<(), NoMemory>
+    ensures { OnOk result (string_bytes output.new ≡ string_bytes output.old
+        ++ codes "# HELP " ++ name.now ++ codes " " ++ flat_map help_byte help.now) }
+{
+    write!(output, "# HELP {name} ")?;
+    push_escaped(output, Place::Help, help)
 }
 
 /// Appends the lines of samples of the family of this name.

@@ -118,40 +118,87 @@ fn script_command<'a>(alloc: Global) -> Result<Command<'a>, AllocError> {
         .arg(names(alloc, "The name of a room: 1 to 64 of a-z, 0-9 and -").required(true))
 }
 
-/// `grace serve`.
-fn serve_command<'a>(alloc: Global) -> Result<Command<'a>, AllocError> {
-    Command::new(alloc, "serve")
-        .about("Serves sessions over WebSocket, then prints the rooms' records")
+/// Adds the options for files, times and the number of clients.
+fn with_limits<'a>(alloc: Global, command: Command<'a>) -> Result<Command<'a>, AllocError> {
+    command
         .arg(keep(alloc))?
         .arg(idle(alloc))?
         .arg(report(alloc))?
-        .arg(clients(alloc))?
+        .arg(clients(alloc))
+}
+
+/// Adds the options for the rooms, and for the end of the server.
+fn with_rooms<'a>(alloc: Global, command: Command<'a>) -> Result<Command<'a>, AllocError> {
+    command
         .arg(by_path(alloc))?
         .arg(on_demand(alloc))?
         .arg(close_after(alloc))?
-        .arg(until_input_ends(alloc))?
-        .arg(word(
-            alloc,
-            "ADDRESS",
-            "The address to listen on: a host and a port, such as 127.0.0.1:8080",
-        ))?
-        .arg(word(
-            alloc,
-            "SESSIONS",
-            "How many sessions to serve in all, 1 to 100000; 0 serves without end",
-        )
-        .value_parser(value_parser!(u32).range(0..=100_000)))?
-        .arg(word(
-            alloc,
-            "WORKERS",
-            "How many threads serve the sessions, 1 to 64; 0 starts one for each processor",
-        )
-        .value_parser(value_parser!(u32).range(0..=64)))?
-        .arg(names(
-            alloc,
-            "A room that is open from the start: 1 to 64 of a-z, 0-9 and -; needed without --rooms",
-        )
-        .required_unless_present("rooms")?)
+        .arg(until_input_ends(alloc))
+}
+
+/// The address to listen on.
+fn listen_address<'a>(alloc: Global) -> Arg<'a> {
+    word(
+        alloc,
+        "ADDRESS",
+        "The address to listen on: a host and a port, such as 127.0.0.1:8080",
+    )
+}
+
+/// The number of sessions.
+fn sessions<'a>(alloc: Global) -> Arg<'a> {
+    word(
+        alloc,
+        "SESSIONS",
+        "How many sessions to serve in all, 1 to 100000; 0 serves without end",
+    )
+    .value_parser(value_parser!(u32).range(0..=100_000))
+}
+
+/// The number of threads.
+fn workers<'a>(alloc: Global) -> Arg<'a> {
+    word(
+        alloc,
+        "WORKERS",
+        "How many threads serve the sessions, 1 to 64; 0 starts one for each processor",
+    )
+    .value_parser(value_parser!(u32).range(0..=64))
+}
+
+/// The rooms that are open from the start.
+fn first_rooms<'a>(alloc: Global) -> Result<Arg<'a>, AllocError> {
+    names(
+        alloc,
+        "A room that is open from the start: 1 to 64 of a-z, 0-9 and -; needed without --rooms",
+    )
+    .required_unless_present("rooms")
+}
+
+/// Adds the arguments before the rooms.
+fn with_words<'a>(alloc: Global, command: Command<'a>) -> Result<Command<'a>, AllocError> {
+    command
+        .arg(listen_address(alloc))?
+        .arg(sessions(alloc))?
+        .arg(workers(alloc))
+}
+
+/// Adds the argument, unless making it failed.
+fn with_last<'a>(
+    command: Command<'a>,
+    last: Result<Arg<'a>, AllocError>,
+) -> Result<Command<'a>, AllocError> {
+    command.arg(last?)
+}
+
+/// `grace serve`.
+fn serve_command<'a>(alloc: Global) -> Result<Command<'a>, AllocError> {
+    let command = Command::new(alloc, "serve").about(
+        "Serves sessions over WebSocket, then prints the rooms' records",
+    );
+    let command = with_limits(alloc, command)?;
+    let command = with_rooms(alloc, command)?;
+    let command = with_words(alloc, command)?;
+    with_last(command, first_rooms(alloc))
 }
 
 /// `grace watch`.
@@ -225,21 +272,42 @@ fn renewed_command<'a>(alloc: Global) -> Result<Command<'a>, AllocError> {
         ))
 }
 
+/// Adds a subcommand, unless making it failed.
+fn with<'a>(
+    command: Command<'a>,
+    subcommand: Result<Command<'a>, AllocError>,
+) -> Result<Command<'a>, AllocError> {
+    command.subcommand(subcommand?)
+}
+
+/// The program without its subcommands.
+fn program<'a>(alloc: Global) -> Command<'a> {
+    Command::new(alloc, "grace")
+        .about("A group drawing server with object versions")
+        .version(VERSION)
+        .subcommand_required(true)
+}
+
+/// Adds the subcommands that serve rooms.
+fn with_servers<'a>(alloc: Global, command: Command<'a>) -> Result<Command<'a>, AllocError> {
+    let command = with(command, script_command(alloc))?;
+    let command = with(command, serve_command(alloc))?;
+    with(command, watch_command(alloc))
+}
+
+/// Adds the subcommands over files.
+fn with_files<'a>(alloc: Global, command: Command<'a>) -> Result<Command<'a>, AllocError> {
+    let command = with(command, check_command(alloc))?;
+    let command = with(command, migrate_command(alloc))?;
+    let command = with(command, renew_command(alloc))?;
+    with(command, renewed_command(alloc))
+}
+
 /// The command line of the program: its commands with their arguments and options.
 ///
 /// # Errors
 ///
 /// `AllocError` if an allocation failed.
 pub fn grace<'a>(alloc: Global) -> Result<Command<'a>, AllocError> {
-    Command::new(alloc, "grace")
-        .about("A group drawing server with object versions")
-        .version(VERSION)
-        .subcommand_required(true)
-        .subcommand(script_command(alloc)?)?
-        .subcommand(serve_command(alloc)?)?
-        .subcommand(watch_command(alloc)?)?
-        .subcommand(check_command(alloc)?)?
-        .subcommand(migrate_command(alloc)?)?
-        .subcommand(renew_command(alloc)?)?
-        .subcommand(renewed_command(alloc)?)
+    with_files(alloc, with_servers(alloc, program(alloc))?)
 }

@@ -31,12 +31,9 @@ def build_program(folder, file, text, other):
     return pathlib.Path(built.stdout.rstrip("\n"))
 
 
-def copy_tree(folder, crate, sources, libraries):
-    """Copies the crates into this folder and adds a crate over these libraries. `sources` is the folder of its sources
-    below the root. Returns the crate's folder in the copy."""
-    copy_files(folder, "crates", "crates.txt", "HANDLES")
-    for library in ROOT.glob("crates/*/out/rlib"):
-        shutil.copytree(library, folder / library.relative_to(ROOT), dirs_exist_ok=True)
+def add_crate(folder, crate, sources, libraries):
+    """Adds a crate over these libraries to the copy in this folder. `sources` is the folder of its sources below the
+    root. Returns the crate's folder in the copy."""
     for source in (ROOT / sources).rglob("*.in"):
         target = folder / "crates" / crate / source.relative_to(ROOT / sources).with_suffix("")
         target.parent.mkdir(parents=True, exist_ok=True)
@@ -44,3 +41,11 @@ def copy_tree(folder, crate, sources, libraries):
     with open(folder / "crates.txt", "a") as crates:
         crates.write(f"{crate}: {libraries}\n")
     return folder / "crates" / crate
+
+
+def copy_tree(folder, crate, sources, libraries):
+    """Copies the crates into this folder, with the libraries that are built, and adds a crate. Returns its folder."""
+    copy_files(folder, "crates", "crates.txt", "HANDLES")
+    for library in ROOT.glob("crates/*/out/rlib"):
+        shutil.copytree(library, folder / library.relative_to(ROOT), dirs_exist_ok=True)
+    return add_crate(folder, crate, sources, libraries)

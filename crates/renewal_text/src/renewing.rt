@@ -1,13 +1,15 @@
 //! Renewing a record.
 
-ghost use Rattle.std.specs.Prelude.{IfOk};
+ghost use Rattle.std.specs.Prelude.{IfOk, List, ℕ};
 ghost use Rattle.wire.specs.Lines.{lines_of};
 ghost use Rattle.renewal_text.specs.Renewing.{IsRenewedText};
+ghost use Rattle.restore.specs.Records.{AreRecord};
 
 use base_types::NoMemory;
 use record_file::text_of;
 use renewal::{Reason, Renewal, renewed};
 use restore::{Reading, read_record};
+use room_core::RoomState;
 use std::alloc::Global;
 
 /// The result of renewing a record.
@@ -31,12 +33,19 @@ pub enum RenewedText {
 pub fn renew(alloc: Global, entries: &[u8]) -> Result<RenewedText, NoMemory>
     ensures { IfOk result (IsRenewedText (lines_of entries.now)) }
 {
-    let old = match read_record(alloc, entries)? {
-        Reading::Bad(number) => return Ok(RenewedText::BadRecord(number)),
-        Reading::Room(old) => old,
-    };
-    match renewed(alloc, &old)? {
-        Renewal::Room(new) => Ok(RenewedText::Text(text_of(alloc, new.entries())?)),
+    match read_record(alloc, entries)? {
+        Reading::Bad(number) => Ok(RenewedText::BadRecord(number)),
+        Reading::Room(old) => text_of_renewed(alloc, &old),
+    }
+}
+
+/// Renews a legal record.
+fn text_of_renewed(alloc: Global, old: &RoomState) -> Result<RenewedText, NoMemory>
+    ensures { IfOk result (λ found. (lines : List (List ℕ)) → AreRecord lines old.now.room.entries
+        → IsRenewedText lines found) }
+{
+    match renewed(alloc, old)? {
+        Renewal::Room(new) => text_of(alloc, new.entries()).map(RenewedText::Text),
         Renewal::Declined(reason) => Ok(RenewedText::Declined(reason)),
     }
 }

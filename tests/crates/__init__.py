@@ -1,0 +1,1 @@
+"""Public calls of the crates, in one program that `rt try --test` builds."""

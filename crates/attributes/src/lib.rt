@@ -1,7 +1,8 @@
 //! The attributes of a version.
 #![tactic(auto)]
 
-ghost use Rattle.std.specs.Prelude.{◌≡◌, ◌<◌, [], true, length, map, All, IfOk, OnOk};
+ghost use Rattle.std.specs.Prelude.{◌≡◌, ◌<◌, ◌≤◌, [], true, length, map, All, IfOk, OnOk};
+ghost use Rattle.std.specs.List.{insert};
 ghost use Rattle.std.specs.List.Sorted.{IsSorted};
 ghost use Rattle.base_types.specs.Names.{Name};
 ghost use Rattle.rules.specs.Groups.{is_compatible};
@@ -59,12 +60,44 @@ fn last_given(
     ensures sorted { IfOk result (λ pairs. IsSorted key_cmp pairs.items) }
 {
     let places = members.list(alloc)?;
+    last_given_at(alloc, ops, &places)
+}
+
+/// For each key that the changes at these places give, what the last one of them gives.
+fn last_given_at(
+    alloc: Global,
+    ops: &[SharedOp],
+    places: &[u32],
+) -> Result<Vec<(Key, Value)>, NoMemory>
+    requires { All (λ place. place < length ops.now) places.now }
+    ensures pairs { IfOk result (λ pairs.
+        pairs.items ≡ with_new_attrs [] (given_backwards (map (at ops.now) places.now))) }
+    ensures sorted { IfOk result (λ pairs. IsSorted key_cmp pairs.items) }
+{
     let mut pairs = Vec::with_capacity(alloc, places.len().min(MOST_AT_FIRST))?;
+    add_given(alloc, &mut pairs, ops, places)?;
+    Ok(pairs)
+}
+
+/// Adds what the changes at these places give to keys that aren't there yet, from the last to the
+/// first. All are in order of key.
+fn add_given(
+    alloc: Global,
+    pairs: &mut Vec<(Key, Value)>,
+    ops: &[SharedOp],
+    places: &[u32],
+) -> Result<(), NoMemory>
+    requires within { All (λ place. place < length ops.now) places.now }
+    requires sorted { IsSorted key_cmp pairs.old.items }
+    ensures pairs { let given = given_backwards (map (at ops.now) places.now)
+        in OnOk result (pairs.new.items ≡ with_new_attrs pairs.old.items given) }
+    ensures sorted { OnOk result (IsSorted key_cmp pairs.new.items) }
+{
     for index in (0..places.len()).rev() {
         let place = places[index] as usize;
-        add_missing(alloc, &mut pairs, ops[place].body.pairs())?;
+        add_missing(alloc, pairs, ops[place].body.pairs())?;
     }
-    Ok(pairs)
+    Ok(())
 }
 
 /// Adds those pairs whose keys aren't there yet. All are in order of key.
@@ -95,7 +128,24 @@ fn add_new(
     ensures sorted { OnOk result (IsSorted key_cmp pairs.new.items) }
 {
     if let Err(place) = pairs.binary_search_by(|pair| pair.0.cmp(key)) {
-        pairs.insert(place, (key.copy(alloc)?, value.copy(alloc)?))?;
+        insert_copy(alloc, pairs, place, key, value)?;
     }
+    Ok(())
+}
+
+/// Inserts a copy of a key and of its value at a place.
+fn insert_copy(
+    alloc: Global,
+    pairs: &mut Vec<(Key, Value)>,
+    place: usize,
+    key: &Key,
+    value: &Value,
+) -> Result<(), NoMemory>
+    requires { place ≤ length pairs.old.items }
+    ensures { OnOk result (pairs.new.items ≡ insert pairs.old.items place (key.now, value.now)) }
+{
+    let key = key.copy(alloc)?;
+    let value = value.copy(alloc)?;
+    pairs.insert(place, (key, value))?;
     Ok(())
 }

@@ -307,6 +307,8 @@ impl Past {
         ensures history { self.new.history ≡ self.old.history }
         ensures kept { (k : ℕ) → slice_index self.old.reserve k ≤ slice_index self.new.reserve k }
         ensures ready { OnOk result (0 < slice_index self.new.reserve (site - 1)) }
+        ensures listed { length self.new.reserve ≡ length self.old.reserve }
+        ensures certain { 0 < slice_index self.old.reserve (site - 1) → IsOk result }
     {
         self.operations.reserve(1)?;
         self.places[site as usize - 1].reserve(1)?;
@@ -363,16 +365,24 @@ impl Past {
         ensures err { OnErr result (self.new.history ≡ self.old.history) }
         ensures certain { 0 < slice_index self.old.reserve (op.name.0 - 1) → IsOk result }
     {
+        self.reserve_listed(op.name.site())?;
+        self.add_reserved(op);
+        Ok(())
+    }
+
+    /// Adds an operation that is admitted, of a site that has a list. There is memory for it.
+    fn add_reserved(&mut self, op: SharedOp)
+        requires admitted { causal_refusal self.old.history op.name op.seen ≡ None }
+        requires listed { op.name.0 ≤ length self.old.reserve }
+        requires ready { 0 < slice_index self.old.reserve (op.name.0 - 1) }
+        ensures added { self.new.history ≡ self.old.history ++ op ∷ [] }
+    {
         let place = self.operations.len();
         // That the number and the vector are in range is part of what stays true of a past.
         let _ = op.name.seq();
         let _ = op.seen.pairs();
         let site = op.name.site() as usize;
-        self.operations.reserve(1)?;
-        self.places[site - 1].push(place)?;
-        let Ok(()) = self.operations.push(op) else {
-            unreachable!()
-        };
-        Ok(())
+        self.places[site - 1].push_reserved(place);
+        self.operations.push_reserved(op);
     }
 }

@@ -1,10 +1,10 @@
 //! The places of changes by their sites.
 
-ghost use Rattle.std.specs.Prelude.{◌≡◌, ℕ, ◌+◌, ◌<◌, ◌^◌, [], ◌∷◌, length, nat_le, IfOk, OnOk, OnErr};
+ghost use Rattle.std.specs.Prelude.{◌≡◌, ℕ, ◌+◌, ◌<◌, ◌≤◌, ◌^◌, [], ◌∷◌, filter, length, nat_le, IfOk, OnOk, OnErr};
 ghost use Rattle.std.specs.List.{list_all};
 ghost use Rattle.base_types.specs.Vectors.{count_of, counts};
-ghost use Rattle.places.specs.steps.PlaceSet.{with_places};
-ghost use Rattle.places.specs.steps.Changes.{places_counted};
+ghost use Rattle.places.specs.steps.PlaceSet.{places, with_places};
+ghost use Rattle.places.specs.steps.Changes.{at, places_counted};
 ghost use Rattle.changes_by_site.specs.steps.Indexes.{counted_of, changes_of_site_at, is_counted, known_of, last_number, with_counted, with_new_site, with_change_of_site, with_change_at, AreBySite, AreInOrder, IsRising};
 ghost use Rattle.places.specs.steps.Lookups.{IsPlaceOf};
 
@@ -250,11 +250,29 @@ impl BySite {
         ensures { IfOk result (λ known. known ≡ places_counted ops.now seen.now) }
     {
         let mut known = self.counted_places(alloc, seen)?;
+        self.insert_unindexed(ops, seen, &mut known)?;
+        Ok(known)
+    }
+
+    /// Adds the places of the changes that a vector counts and that are not in the index to those of
+    /// the indexed ones.
+    fn insert_unindexed(
+        &self,
+        ops: &[SharedOp],
+        seen: &StateVector,
+        known: &mut PlaceSet,
+    ) -> Result<(), NoMemory>
+        requires few { length ops.now < 2 ^ 32 }
+        requires len { self.now.len ≤ length ops.now }
+        requires indexed { known.old ≡ filter (λ place. counts seen.now (at ops.now place).name)
+            (places self.now.len) }
+        ensures { OnOk result (known.new ≡ places_counted ops.now seen.now) }
+    {
         for place in self.len..ops.len() as u32 {
             if seen.has(ops[place as usize].name) {
                 known.insert(place)?;
             }
         }
-        Ok(known)
+        Ok(())
     }
 }

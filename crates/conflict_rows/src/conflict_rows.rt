@@ -1,9 +1,9 @@
 //! The changes of one object with their bases and their conflicts.
 
-ghost use Rattle.std.specs.Prelude.{◌≡◌, true, ◌<◌, ◌^◌, [], ◌∷◌, ◌++◌, length, filter, nat_lt, not, if◌then◌else◌, vec_capacity, vec_len, All, IfOk, IfSome, OnOk};
+ghost use Rattle.std.specs.Prelude.{◌≡◌, ℕ, List, true, ◌<◌, ◌^◌, [], ◌∷◌, ◌++◌, length, filter, nat_lt, not, if◌then◌else◌, vec_capacity, vec_len, All, IfOk, IfSome, OnOk};
 ghost use Rattle.std.specs.List.{list_any};
 ghost use Rattle.places.specs.steps.PlaceSet.{has, is_within, places, with_place, with_those};
-ghost use Rattle.conflict_rows.specs.steps.Rows.{at_odds_at, conflicts_below, direct_places, places_unknown, with_conflicts};
+ghost use Rattle.conflict_rows.specs.steps.Rows.{at_odds_at, conflicts_below, direct_places, is_in_row, places_unknown, with_conflicts};
 ghost use Rattle.places.specs.steps.Changes.{at, base_places, conflicting_places, is_conflict_of, new_conflicts, AreChangesOn, IsAddition};
 
 use crate::joins::{last_place, places_from, union_of_rows};
@@ -113,9 +113,7 @@ impl ConflictRows {
         ensures object { self.new.object ≡ self.old.object }
         ensures ops { self.new.ops ≡ self.old.ops }
     {
-        let row = self.row(alloc, &op, &base, candidates)?;
-        let conflicting = self.conflicting_with(alloc, &row)?;
-        self.reserve()?;
+        let (row, conflicting) = self.planned_rows(alloc, &op, &base, candidates)?;
         Ok(Addition::new(op, base, row, conflicting))
     }
 
@@ -186,12 +184,63 @@ impl ConflictRows {
         Ok(())
     }
 
+    /// The places of the changes that conflict with a change to be added, and of all that conflict
+    /// with some change then. Takes the memory for the change. The changes stay as they are.
+    fn planned_rows(
+        &mut self,
+        alloc: Global,
+        op: &Op,
+        based: &PlaceSet,
+        candidates: &PlaceSet,
+    ) -> Result<(PlaceSet, PlaceSet), NoMemory>
+        requires changes { AreChangesOn self.old.object (self.old.ops ++ op.now ∷ []) }
+        requires base { based.now ≡ base_places self.old.ops op.now }
+        requires within { All (λ place. place < length self.old.ops) candidates.now }
+        requires at_odds { filter (at_odds_at self.old.ops op.now.body) candidates.now
+            ≡ filter (at_odds_at self.old.ops op.now.body) (places_unknown self.old.ops op.now) }
+        ensures row { IfOk result (λ planned. planned.0 ≡ new_conflicts self.old.ops op.now) }
+        ensures all { let place = length self.old.ops in IfOk result (λ planned. planned.1
+            ≡ with_conflicts planned.0 place (conflicting_places self.old.ops)) }
+        ensures spare { OnOk result (0 < self.new.spare) }
+        ensures object { self.new.object ≡ self.old.object }
+        ensures ops { self.new.ops ≡ self.old.ops }
+    {
+        let row = self.row(alloc, op, based, candidates)?;
+        let conflicting = self.reserved_with(alloc, &row)?;
+        Ok((row, conflicting))
+    }
+
+    /// The places of all changes that conflict with some change, once one is added that conflicts
+    /// with those of a row. Takes the memory for that one. The changes stay as they are.
+    fn reserved_with(&mut self, alloc: Global, row: &PlaceSet) -> Result<PlaceSet, NoMemory>
+        ensures all { let place = length self.old.ops in IfOk result (λ all. all
+            ≡ with_conflicts row.now place (conflicting_places self.old.ops)) }
+        ensures spare { OnOk result (0 < self.new.spare) }
+        ensures object { self.new.object ≡ self.old.object }
+        ensures ops { self.new.ops ≡ self.old.ops }
+    {
+        let conflicting = self.conflicting_with(alloc, row)?;
+        self.reserve()?;
+        Ok(conflicting)
+    }
+
     /// The change at a place.
     fn change_at(&self, place: u32) -> &Op
         requires { place < length self.now.ops }
         ensures { result.now ≡ at self.now.ops place }
     {
         &self.ops[place as usize]
+    }
+
+    /// The places of the base of the change at a place, and that place.
+    fn base_with_itself(&self, alloc: Global, place: u32) -> Result<PlaceSet, NoMemory>
+        requires { place < length self.now.ops }
+        ensures { IfOk result (λ all.
+            all ≡ with_place place (base_places self.now.ops (at self.now.ops place))) }
+    {
+        let mut all = self.base(place).copy(alloc)?;
+        all.insert(place)?;
+        Ok(all)
     }
 
     /// The last place of a base, if its change is based on those at all others. `None` where no
@@ -209,8 +258,7 @@ impl ConflictRows {
         let Some(last) = last_place(based, self.ops.len() as u32) else {
             return Ok(None);
         };
-        let mut with_base = self.base(last).copy(alloc)?;
-        with_base.insert(last)?;
+        let with_base = self.base_with_itself(alloc, last)?;
         if based.is_subset(&with_base) {
             Ok(Some(last))
         } else {
@@ -295,11 +343,20 @@ impl ConflictRows {
             ≡ with_conflicts row.now place (conflicting_places self.now.ops)) }
     {
         let mut all = self.conflicting.copy(alloc)?;
+        self.add_row(row, &mut all)?;
+        Ok(all)
+    }
+
+    /// Adds the places of a row, and that of the change to be added, unless the row is empty.
+    fn add_row(&self, row: &PlaceSet, all: &mut PlaceSet) -> Result<(), NoMemory>
+        ensures { OnOk result
+            (all.new ≡ with_conflicts row.now (length self.now.ops) all.old) }
+    {
         if row.lowest_place().is_some() {
             all.insert_all(row)?;
             all.insert(self.ops.len() as u32)?;
         }
-        Ok(all)
+        Ok(())
     }
 
     /// Is the change at a place, or one of its base, at a place of a direct conflict?
@@ -332,15 +389,31 @@ impl ConflictRows {
         // That the changes are some history's is part of what stays true of them.
         let _ = &self.ops;
         let mut row = self.conflicts_of_base(alloc, based)?;
-        let direct = &self.direct_conflicts(alloc, op, candidates, &row)?;
+        let direct = self.direct_conflicts(alloc, op, candidates, &row)?;
+        self.add_based_on(&direct, &mut row)?;
+        Ok(row)
+    }
+
+    /// Adds the places of the direct conflicts and of what is based on them to those that conflict
+    /// with a base.
+    fn add_based_on(&self, direct: &PlaceSet, row: &mut PlaceSet) -> Result<(), NoMemory>
+        ensures { let count = length self.now.ops in (based : List ℕ)
+            → All (λ other. other < count) based
+            → row.old ≡ filter (conflicts_below (is_conflict_of self.now.ops) based count)
+            (places count)
+            → OnOk result
+            (row.new ≡ filter (is_in_row self.now.ops direct.now based) (places count)) }
+    {
+        // That the changes are some history's is part of what stays true of them.
+        let _ = &self.ops;
         let Some(lowest) = direct.lowest_place() else {
-            return Ok(row);
+            return Ok(());
         };
         for place in lowest..self.ops.len() as u32 {
             let has_direct = self.has_direct_conflict(direct, place);
             row.insert_if(place, has_direct)?;
         }
-        Ok(row)
+        Ok(())
     }
 }
 

@@ -47,12 +47,31 @@ fn step(
     if conflicting.lowest_place().is_none() {
         return Ok(next);
     }
+    add_candidates(
+        &mut next,
+        needed_candidates(alloc, kept, conflicting, place)?,
+    )?;
+    Ok(next)
+}
+
+/// Candidates for what a step adds to the grown groups. Where each candidate lies in that of one
+/// group, that one alone.
+fn needed_candidates(
+    alloc: Global,
+    kept: &[PlaceSet],
+    conflicting: &PlaceSet,
+    place: u32,
+) -> Result<VecDeque<PlaceSet>, NoMemory>
+    requires { All (AreBelow place) kept.now }
+    ensures { let is_compatible = is_none_of conflicting.now in IfOk result (λ candidates.
+        sift (map (group_after is_compatible place) kept.now) candidates.items
+        ≡ next_groups is_compatible place kept.now) }
+{
     let sources = match last_with_all_free(alloc, kept, conflicting, place)? {
         Some(group) => &kept[group..group + 1],
         None => kept,
     };
-    add_candidates(&mut next, candidates(alloc, sources, conflicting, place)?)?;
-    Ok(next)
+    candidates(alloc, sources, conflicting, place)
 }
 
 /// The last of several groups that has all places without a conflict with the place. Each candidate

@@ -54,14 +54,30 @@ pub fn group_named<R: Relation>(
         ≡ group_named (R.conflicts relation.now) (R.name_at relation.now) known.now id.now) }
 {
     known.rises();
-    let named = places_named(alloc, relation, known, id)?;
-    let group = compatible_places(alloc, relation, known, &named)?;
+    let group = places_that_fit(alloc, relation, known, id)?;
     let found = identifier_among(alloc, relation, known, &group)?;
     if found == *id {
         Ok(Some(group))
     } else {
         Ok(None)
     }
+}
+
+/// The known places that are in conflict with none of those that an identifier names.
+fn places_that_fit<R: Relation>(
+    alloc: Global,
+    relation: &R,
+    known: &PlaceSet,
+    id: &VersionId,
+) -> Result<PlaceSet, NoMemory>
+    requires { AreAmong (R.size relation.now) known.now }
+    ensures { let named = filter (is_named (R.name_at relation.now) id.now) known.now
+        in IfOk result (λ group. group
+        ≡ filter (λ place. not (in_conflict_with (R.conflicts relation.now) named place))
+        known.now) }
+{
+    let named = places_named(alloc, relation, known, id)?;
+    compatible_places(alloc, relation, known, &named)
 }
 
 /// The identifier of a group among some of the places.
@@ -230,6 +246,21 @@ fn earlier_conflicts<R: Relation>(
     Ok(all)
 }
 
+/// The lower places that conflict with one of the scope.
+fn earlier_conflicts_of<R: Relation>(
+    alloc: Global,
+    relation: &R,
+    scope: &PlaceSet,
+) -> Result<PlaceSet, NoMemory>
+    requires { All (λ place. place < R.size relation.now) scope.now }
+    ensures { let all = places_in_conflict (R.conflicts relation.now) (R.size relation.now)
+        in IfOk result (λ earlier. earlier
+        ≡ with_earlier_conflicts (R.conflicts relation.now) [] (filter (has all) scope.now)) }
+{
+    let others = list_in_conflict(alloc, relation, scope)?;
+    earlier_conflicts(alloc, relation, &others)
+}
+
 /// Those of the listed places that conflict with one of the scope. `earlier` has the lower places
 /// in conflict with the scope.
 fn those_conflicting<R: Relation>(
@@ -266,8 +297,7 @@ fn conflicting_among<R: Relation>(
 {
     // With the length of a relation comes what it keeps.
     let _ = relation.len();
-    let others = list_in_conflict(alloc, relation, scope)?;
-    let earlier = earlier_conflicts(alloc, relation, &others)?;
+    let earlier = earlier_conflicts_of(alloc, relation, scope)?;
     let places = list_in_conflict(alloc, relation, among)?;
     those_conflicting(alloc, relation, scope, &earlier, &places)
 }

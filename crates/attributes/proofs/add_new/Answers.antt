@@ -17,7 +17,7 @@ use Rattle.attributes.proofs.Searched.{IsPlaceFor, inserted, inserted_sorted, it
 use Rattle.attributes.proofs.add_new.Goals as goal
 
 -- the place that the search gives
-place_is : (c : goal.In_ok-insert) → IsPlaceFor key_cmp key_cmp_total (c.args.key.now, c.args.value.now) c.args.pairs.now.items c.in-Err.place
+place_is : (c : goal.In_ok-insert_copy) → IsPlaceFor key_cmp key_cmp_total (c.args.key.now, c.args.value.now) c.args.pairs.now.items c.in-Err.place
 place_is c =
     let attr : Attr = (c.args.key.now, c.args.value.now) in
     let found : List Attr = c.deref.result.now in
@@ -25,11 +25,11 @@ place_is c =
     let parts = c.in-Err.ensures.position (λ pair. key_cmp pair attr) (always_returns_same _ _ _ (λ a r g called. search rules)) rises in
     subst (λ (l : List Attr). IsPlaceFor key_cmp key_cmp_total attr l c.in-Err.place) c.deref.ensures.value (record { within = c.in-Err.ensures.bound; less = parts.0; greater = parts.1 })
 
-put_in : (c : goal.In_ok-insert) → c.insert-in-Err.new.self.items ≡ insert c.args.pairs.now.items c.in-Err.place (c.args.key.now, c.args.value.now)
-put_in c = c.in_ok-insert.ensures.items ∙ (λ i. insert c.args.pairs.now.items c.in-Err.place (c.in_ok-copy.ensures i, c.in_ok-copy-2.ensures i))
+put_in : (c : goal.In_ok-insert_copy) → c.insert_copy.new.pairs.items ≡ insert c.args.pairs.now.items c.in-Err.place (c.args.key.now, c.args.value.now)
+put_in c = c.in_ok-insert_copy.ensures
 
-pub returns-in_ok-insert-clause-pairs : goal.returns-in_ok-insert-clause-pairs
-returns-in_ok-insert-clause-pairs c =
+pub returns-in_ok-insert_copy-clause-pairs : goal.returns-in_ok-insert_copy-clause-pairs
+returns-in_ok-insert_copy-clause-pairs c =
     let attr : Attr = (c.args.key.now, c.args.value.now) in
     let pairs : List Attr = c.args.pairs.now.items in
     let place = place_is c in
@@ -40,8 +40,8 @@ returns-in_ok-insert-clause-pairs c =
     (subst (λ k. key_cmp (k, other.0.1) attr ≡ Equal) same (itself key_cmp key_cmp_total attr))) in
     put_in c ∙ inserted key_cmp key_cmp_total attr pairs c.in-Err.place place ∙ ap (λ b. cond b pairs (insert_by key_cmp attr pairs)) (sym none)
 
-pub returns-in_ok-insert-clause-sorted : goal.returns-in_ok-insert-clause-sorted
-returns-in_ok-insert-clause-sorted c =
+pub returns-in_ok-insert_copy-clause-sorted : goal.returns-in_ok-insert_copy-clause-sorted
+returns-in_ok-insert_copy-clause-sorted c =
     rw (put_in c) (inserted_sorted key_cmp key_cmp_total (c.args.key.now, c.args.value.now) c.args.pairs.now.items c.in-Err.place (place_is c) c.requires)
 
 pub returns-in_default-clause-pairs : goal.returns-in_default-clause-pairs

@@ -1,4 +1,4 @@
-use Rattle.std.proofs.Common.{◌∙◌, ◌&&◌, ℕ, Bool, sym}
+use Rattle.std.proofs.Common.{◌∙◌, ◌&&◌, ℕ, Bool, refl, sym}
 use Rattle.std.specs.Prelude.{filter}
 use Rattle.std.proofs.lemmas.Result.{IfOk-weaker}
 use Rattle.rules.specs.Groups.{in_conflict_with}
@@ -10,17 +10,11 @@ use Rattle.version_ids.proofs.Earlier.{conflicts_among, listed_conflicts}
 use Rattle.version_ids.proofs.Scopes.{all_low, filter_both, filtered_among, kept_of, low, some_low}
 use Rattle.version_ids.proofs.conflicting_among.Goals as goal
 
-pub earlier_conflicts-requires : goal.earlier_conflicts-requires
-earlier_conflicts-requires g c =
-    let n = g.R.Relation.size c.args.relation.now in
-    let all = places_in_conflict (g.R.Relation.conflicts c.args.relation.now) n in
-    some_low n c.args.scope.now c.deref.result.now (has all) c.requires.scope (c.deref.ensures.value ∙ c.in_ok-others.ensures)
-
 pub those_conflicting-requires : goal.those_conflicting-requires
 those_conflicting-requires g c =
     let n = g.R.Relation.size c.args.relation.now in
     let all = places_in_conflict (g.R.Relation.conflicts c.args.relation.now) n in
-    some_low n c.args.among.now c.deref-2.result.now (has all) (all_low n c.args.among.now c.requires.among) (c.deref-2.ensures.value ∙ c.in_ok-places.ensures)
+    some_low n c.args.among.now c.deref.result.now (has all) (all_low n c.args.among.now c.requires.among) (c.deref.ensures.value ∙ c.in_ok-places.ensures)
 
 pub returns : goal.returns
 returns g c =
@@ -32,10 +26,10 @@ returns g c =
     let earlier = c.in_ok-earlier.earlier in
     let test : ℕ → Bool = is_conflicting is_conflict scope earlier in
     IfOk-weaker c.those_conflicting.result _ _ (λ conflicting e.
-    kept_of n (filter (has all) among) conflicting c.deref-2.result.now test (filtered_among n among c.requires.among (has all)) (c.deref-2.ensures.value ∙ c.in_ok-places.ensures) e
+    kept_of n (filter (has all) among) conflicting c.deref.result.now test (filtered_among n among c.requires.among (has all)) (c.deref.ensures.value ∙ c.in_ok-places.ensures) e
     ∙ sym (filter_both (has all) test among)
     ∙ filter_agree (λ x. has all x && test x) (in_conflict_with is_conflict scope) among (λ x m.
     let l = low n among c.requires.among x m in
     listed_conflicts is_conflict n scope c.requires.scope x l (test x)
-    (conflicts_among is_conflict n (g.R.Relation.name_at c.args.relation.now) c.len.ensures.relation scope c.deref.result.now earlier c.requires.scope (c.deref.ensures.value ∙ c.in_ok-others.ensures) c.in_ok-earlier.ensures x l)))
+    (conflicts_among is_conflict n (g.R.Relation.name_at c.args.relation.now) c.len.ensures.relation scope (filter (has all) scope) earlier c.requires.scope refl c.in_ok-earlier.ensures x l)))
     c.those_conflicting.ensures

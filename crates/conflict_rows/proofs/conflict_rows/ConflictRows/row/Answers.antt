@@ -1,13 +1,12 @@
-use Rattle.std.proofs.Common.{◌≡◌, ◌<◌, ◌∙◌, List, ℕ, ap, arith, cond, length, not, refl, subst, sym, ◌++◌, ◌∷◌, []}
+use Rattle.std.proofs.Common.{◌≡◌, ◌<◌, ◌∙◌, List, ℕ, ap, length, not, refl, subst, sym, ◌++◌, ◌∷◌, []}
 use Rattle.std.specs.Prelude.{All, filter}
 use Rattle.base_types.specs.Names.{Name}
 use Rattle.rules.specs.declared.history.Op.{Op}
 use Rattle.rules.specs.Conflicts.{direct_conflict}
-use Rattle.places.specs.steps.PlaceSet.{has, places, with_place}
+use Rattle.places.specs.steps.PlaceSet.{has, places}
 use Rattle.places.specs.steps.Changes.{AreChangesOf, Changes, at, base_places, is_conflict_of, new_conflicts}
 use Rattle.places.proofs.Places.{all_below}
 use Rattle.conflict_rows.specs.steps.Rows.{conflicts_below, direct_places, is_in_row}
-use Rattle.conflict_rows.proofs.Direct.{row_begun, row_done, row_if_none, row_more}
 use Rattle.conflict_rows.proofs.Inherited.{other_conflicts}
 use Rattle.conflict_rows.proofs.Rows.{listed_is, row_is}
 use Rattle.conflict_rows.proofs.conflict_rows.ConflictRows.row.Goals as goal
@@ -28,37 +27,11 @@ conflicts_of_base-requires c =
     let o = c.args.op.now in
     all_below (has (base_places k o)) (length k) c.args.based.now (c.requires.base ∙ sym (listed_is k o c.requires.changes.listed))
 
-pub returns-in_default : goal.returns-in_default
-returns-in_default c =
-    let k = c.args.self.now.ops in
-    let o = c.args.op.now in
-    let changes : AreChangesOf c.self.inside.object k = subst (λ (s : Changes). AreChangesOf c.self.inside.object s.ops) c.self.view_is c.self.invariant.changes.listed in
-    let low = all_below (has (base_places k o)) (length k) c.args.based.now (c.requires.base ∙ sym (listed_is k o c.requires.changes.listed)) in
-    row_of_others k o changes c.requires.changes.listed c.args.based.now c.in_ok-row.row c.in_ok-direct.field-0 c.in_ok-row.row c.requires.base c.in_ok-row.ensures c.in_ok-direct.ensures
-    (row_if_none k c.args.based.now c.in_ok-direct.field-0 c.in_ok-row.row c.in_default.ensures low c.in_ok-row.ensures)
-
-pub loop-place-init : goal.loop-place-init
-loop-place-init c =
-    let k = c.args.self.now.ops in
-    let o = c.args.op.now in
-    let changes : AreChangesOf c.self.inside.object k = subst (λ (s : Changes). AreChangesOf c.self.inside.object s.ops) c.self.view_is c.self.invariant.changes.listed in
-    let low = all_below (has (base_places k o)) (length k) c.args.based.now (c.requires.base ∙ sym (listed_is k o c.requires.changes.listed)) in
-    row_begun k changes c.in_ok-direct.field-0 c.args.based.now c.in-Some.lowest c.in_ok-row.row c.in-Some.ensures.1 low c.in_ok-row.ensures
-
-pub loop-place-preserved : goal.loop-place-preserved
-loop-place-preserved c =
-    let k = c.args.self.now.ops in
-    let p = c.loop-place.place in
-    let changes : AreChangesOf c.self.inside.object k = subst (λ (s : Changes). AreChangesOf c.self.inside.object s.ops) c.self.view_is c.self.invariant.changes.listed in
-    let size : c.len-place-end.result ≡ length k = omega (arith, c.len-place-end.ensures, c.self.inside.ops.ok, ap (λ (s : Changes). length s.ops) c.self.view_is) in
-    row_more k changes c.in_ok-direct.field-0 c.args.based.now p c.loop-place.row c.insert_if.new.self (omega (arith, size)) c.loop-place.invariant
-    (c.in_ok-insert_if.ensures.ok ∙ ap (λ b. cond b (with_place p c.loop-place.row) c.loop-place.row) c.has_direct_conflict-has_direct.ensures)
-
 pub returns : goal.returns
 returns c =
     let k = c.args.self.now.ops in
     let o = c.args.op.now in
     let changes : AreChangesOf c.self.inside.object k = subst (λ (s : Changes). AreChangesOf c.self.inside.object s.ops) c.self.view_is c.self.invariant.changes.listed in
-    let size : c.len-place-end.result ≡ length k = omega (arith, c.len-place-end.ensures, c.self.inside.ops.ok, ap (λ (s : Changes). length s.ops) c.self.view_is) in
-    row_of_others k o changes c.requires.changes.listed c.args.based.now c.in_ok-row.row c.in_ok-direct.field-0 c.loop-place.row c.requires.base c.in_ok-row.ensures c.in_ok-direct.ensures
-    (row_done k changes c.in_ok-direct.field-0 c.args.based.now c.loop-place.place c.loop-place.row (omega (arith, size)) c.loop-place.invariant)
+    let low = all_below (has (base_places k o)) (length k) c.args.based.now (c.requires.base ∙ sym (listed_is k o c.requires.changes.listed)) in
+    row_of_others k o changes c.requires.changes.listed c.args.based.now c.in_ok-row.row c.in_ok-direct.direct c.add_based_on.new.row c.requires.base c.in_ok-row.ensures c.in_ok-direct.ensures
+    (c.in_ok-add_based_on.ensures c.args.based.now low c.in_ok-row.ensures)

@@ -15,7 +15,8 @@ LIBRARIES = (
     " room_lock keeper connection loops sessions room_watch tungstenite mio log"
 )
 TEST = re.compile(r"^#\[test\]\n(?:#.*\n)*fn (\w+)", re.MULTILINE)
-OUTCOME = re.compile(r"^test (\S+) \.\.\. (.*)$", re.MULTILINE)
+# A test's line, and the indented lines behind it that say why it failed.
+OUTCOME = re.compile(r"^test (\S+) \.\.\. (.*(?:\n    .*)*)", re.MULTILINE)
 
 
 def names():
@@ -51,8 +52,7 @@ class TestCalls(unittest.TestCase):
 
     def expect_passed(self, name):
         """Expects that the test of this name passed."""
-        if self.outcomes.get(name) != "ok":
-            self.fail(self.printed[-3000:])
+        self.assertEqual(self.outcomes.get(name, "not run"), "ok")
 
 
 def method_of(name):

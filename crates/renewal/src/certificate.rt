@@ -1,9 +1,9 @@
 //! The certificate of a renewal.
 
-ghost use Rattle.std.specs.Prelude.{◌≡◌, ◌↔◌, IfOk, IfSome, IsSome};
+ghost use Rattle.std.specs.Prelude.{◌≡◌, ◌↔◌, IfOk, IfSome, IsSome, IsTrue, Ok, true};
 ghost use Rattle.rules.specs.Limits.{full_limits};
 ghost use Rattle.rules.specs.Records.{IsLegal};
-ghost use Rattle.room_core.specs.Room.{full_room};
+ghost use Rattle.room_core.specs.Room.{empty_room, full_room};
 ghost use Rattle.renewal.specs.Drawn.{drawn};
 ghost use Rattle.renewal.specs.Renewed.{IsRenewal};
 
@@ -14,18 +14,48 @@ use room_core::{Limits, RoomState};
 use rules::Entry;
 use std::alloc::Global;
 
+/// Adds the entries to a new room, up to the first that may not come next. Returns whether there was
+/// none.
+fn accept_all(alloc: Global, room: &mut RoomState, entries: &[Entry]) -> Result<bool, NoMemory>
+    requires { room.old.room ≡ empty_room full_limits }
+    ensures room { result ≡ Ok true → room.new.room ≡ full_room entries.now }
+    ensures legal { IfOk result (λ taken. IsTrue taken ↔ IsLegal full_limits entries.now) }
+{
+    for entry in entries {
+        if !room.accept(alloc, entry)? {
+            return Ok(false);
+        }
+    }
+    Ok(true)
+}
+
 /// The room with this record under full limits, or `None` if it is not legal.
 fn replay(alloc: Global, entries: &[Entry]) -> Result<Option<RoomState>, NoMemory>
     ensures room { IfOk result (λ found. IfSome found (λ room. room.room ≡ full_room entries.now)) }
     ensures legal { IfOk result (λ found. IsSome found ↔ IsLegal full_limits entries.now) }
 {
     let mut room = RoomState::new(alloc, Limits::full())?;
-    for entry in entries {
-        if !room.accept(alloc, entry)? {
-            return Ok(None);
-        }
+    if accept_all(alloc, &mut room, entries)? {
+        Ok(Some(room))
+    } else {
+        Ok(None)
     }
-    Ok(Some(room))
+}
+
+/// The room if it draws exactly this.
+fn if_it_draws(
+    alloc: Global,
+    room: RoomState,
+    pictures: &[Picture],
+) -> Result<Option<RoomState>, NoMemory>
+    ensures room { IfOk result (λ found. IfSome found (λ same. same ≡ room)) }
+    ensures exact { IfOk result (λ found. IsSome found ↔ (drawn room.room.entries ≡ pictures.now)) }
+{
+    if draws(alloc, &room, pictures)? {
+        Ok(Some(room))
+    } else {
+        Ok(None)
+    }
 }
 
 /// The room with this record, or `None` if it is not legal or does not draw exactly this.
@@ -38,13 +68,9 @@ pub(crate) fn certify_drawing(
     ensures exact { IfOk result (λ found. IsSome found
         ↔ (IsLegal full_limits entries.now × (drawn entries.now ≡ pictures.now))) }
 {
-    let Some(room) = replay(alloc, entries)? else {
-        return Ok(None);
-    };
-    if draws(alloc, &room, pictures)? {
-        Ok(Some(room))
-    } else {
-        Ok(None)
+    match replay(alloc, entries)? {
+        Some(room) => if_it_draws(alloc, room, pictures),
+        None => Ok(None),
     }
 }
 

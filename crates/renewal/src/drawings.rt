@@ -2,10 +2,10 @@
 
 ghost use Rattle.std.specs.Prelude.{◌≡◌, ◌↔◌, ◌++◌, ◌∷◌, [], filter_map, IfOk, IsTrue, OnOk};
 ghost use Rattle.drawing.specs.Shown.{shown};
-ghost use Rattle.renewal.specs.Drawn.{drawn, live_versions, picture_in};
+ghost use Rattle.renewal.specs.Drawn.{drawn, drawn_if, live_versions, picture_in};
 
 use crate::picture::{Picture, are_same};
-use base_types::{NoMemory, OpName};
+use base_types::{Kind, NoMemory, OpName};
 use room_core::RoomState;
 use rules::{AttrList, Shown, Version};
 use std::alloc::Global;
@@ -33,19 +33,31 @@ fn live_versions(alloc: Global, versions: &[Version]) -> Result<Vec<AttrList>, N
     Ok(list)
 }
 
-/// What the answer to a show draws: nothing if no version is left that is not gone.
-fn picture_in(alloc: Global, reply: &Reply) -> Result<Option<Picture>, NoMemory>
-    ensures { IfOk result (λ picture. picture ≡ picture_in reply.now) }
+/// An object of this kind with these versions, if there are any.
+fn picture_of(
+    alloc: Global,
+    kind: &Kind,
+    versions: Vec<AttrList>,
+) -> Result<Option<Picture>, NoMemory>
+    ensures { IfOk result (λ picture. picture ≡ drawn_if kind.now versions.items) }
 {
-    let Reply::Versions { kind, versions, .. } = reply else {
-        return Ok(None);
-    };
-    let versions = live_versions(alloc, versions.as_slice())?;
     if versions.is_empty() {
         return Ok(None);
     }
     let kind = kind.copy(alloc)?;
     Ok(Some(Picture::new(kind, versions)))
+}
+
+/// What the answer to a show draws: nothing if no version is left that is not gone.
+fn picture_in(alloc: Global, reply: &Reply) -> Result<Option<Picture>, NoMemory>
+    ensures { IfOk result (λ picture. picture ≡ picture_in reply.now) }
+{
+    match reply {
+        Reply::Versions { kind, versions, .. } => {
+            picture_of(alloc, kind, live_versions(alloc, versions.as_slice())?)
+        }
+        _ => Ok(None),
+    }
 }
 
 /// Adds what the answer to a show draws.
@@ -59,6 +71,20 @@ fn add_picture(alloc: Global, list: &mut Vec<Picture>, reply: &Reply) -> Result<
     Ok(())
 }
 
+/// Adds what a room draws of the object of this name.
+fn add_drawn(
+    alloc: Global,
+    list: &mut Vec<Picture>,
+    room: &RoomState,
+    name: OpName,
+) -> Result<(), NoMemory>
+    ensures { OnOk result (list.new.items ≡ list.old.items
+        ++ filter_map (λ name. picture_in (shown room.now.room.entries name)) (name ∷ [])) }
+{
+    let reply = room.show(alloc, name)?;
+    add_picture(alloc, list, &reply)
+}
+
 /// What a room draws of the objects of these names.
 #[tactic(auto, using(crate::proofs::More::filter_map_more))]
 fn drawn_of(alloc: Global, room: &RoomState, names: &[OpName]) -> Result<Vec<Picture>, NoMemory>
@@ -67,8 +93,7 @@ fn drawn_of(alloc: Global, room: &RoomState, names: &[OpName]) -> Result<Vec<Pic
 {
     let mut list = Vec::new(alloc);
     for name in names {
-        let reply = room.show(alloc, *name)?;
-        add_picture(alloc, &mut list, &reply)?;
+        add_drawn(alloc, &mut list, room, *name)?;
     }
     Ok(list)
 }

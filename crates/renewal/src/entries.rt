@@ -1,7 +1,7 @@
 //! The entries of a record that draws something.
 
 use crate::picture::Picture;
-use crate::plan::{Chain, plan_object};
+use crate::plan::{ObjectPlan, PlannedPut, plan_object};
 use crate::reason::{Reason, WritingFault};
 use base_types::{Key, Kind, NoMemory, OpName, StateVector, Value, VectorFault, VersionId};
 use rules::{Attrs, Body, Entry, Op, Pairs};
@@ -64,16 +64,22 @@ impl Writing {
         }
     }
 
-    /// Adds the site's next operation, and returns its name.
-    fn add(&mut self, alloc: Global, site: u32, body: Body) -> Result<OpName, WritingFault> {
-        let seen = self.seen_by(alloc, site)?;
-        let made = self.made_by(site).saturating_add(1);
-        let name = OpName::new(site, made).ok_or(Reason::TooLong)?;
-        self.entries
-            .push(Entry::Operation(Op { name, seen, body }))?;
+    /// Adds an operation of a site that has now made so many.
+    fn push(&mut self, op: Op, made: u32) -> Result<(), NoMemory> {
+        let site = op.name.site();
+        self.entries.push(Entry::Operation(op))?;
         if let Some(count) = self.made.get_mut(site.saturating_sub(1) as usize) {
             *count = made;
         }
+        Ok(())
+    }
+
+    /// Adds the site's next operation, and returns its name.
+    fn add(&mut self, alloc: Global, site: u32, body: Body) -> Result<OpName, WritingFault> {
+        let made = self.made_by(site).saturating_add(1);
+        let name = OpName::new(site, made).ok_or(Reason::TooLong)?;
+        let seen = self.seen_by(alloc, site)?;
+        self.push(Op { name, seen, body }, made)?;
         Ok(name)
     }
 
@@ -113,33 +119,29 @@ impl Writing {
         Ok(())
     }
 
-    /// Adds the puts of one version.
-    fn add_chain(
+    /// Adds the puts of an object.
+    fn add_puts(
         &mut self,
         alloc: Global,
-        site: u32,
         object: OpName,
-        chain: Chain,
+        puts: Vec<PlannedPut>,
     ) -> Result<(), WritingFault> {
-        for pairs in chain {
+        for PlannedPut { site, pairs } in puts {
             self.put(alloc, site, object, pairs)?;
         }
         Ok(())
     }
 
-    /// Adds the puts of all versions of an object: those of its first version by site 1, those of
-    /// its second by site 2, and so on.
-    fn add_chains(
+    /// Adds the creation of an object. Adds its name to `created`, with the puts that are to follow.
+    fn create_pictured(
         &mut self,
         alloc: Global,
-        object: OpName,
-        chains: Vec<Chain>,
+        picture: &Picture,
+        created: &mut Vec<(OpName, Vec<PlannedPut>)>,
     ) -> Result<(), WritingFault> {
-        let mut site: u32 = 0;
-        for chain in chains {
-            site = site.saturating_add(1);
-            self.add_chain(alloc, site, object, chain)?;
-        }
+        let ObjectPlan { attrs, puts } = plan_object(alloc, picture.versions())?;
+        let name = self.create(alloc, picture.kind(), attrs)?;
+        created.push((name, puts))?;
         Ok(())
     }
 
@@ -148,14 +150,21 @@ impl Writing {
         &mut self,
         alloc: Global,
         pictures: &[Picture],
-    ) -> Result<Vec<(OpName, Vec<Chain>)>, WritingFault> {
+    ) -> Result<Vec<(OpName, Vec<PlannedPut>)>, WritingFault> {
         let mut created = Vec::new(alloc);
         for picture in pictures {
-            let plan = plan_object(alloc, picture.versions())?;
-            let name = self.create(alloc, picture.kind(), plan.attrs)?;
-            created.push((name, plan.chains))?;
+            self.create_pictured(alloc, picture, &mut created)?;
         }
         Ok(created)
+    }
+
+    /// Adds the creations of all objects, then the puts of each.
+    fn write_all(&mut self, alloc: Global, pictures: &[Picture]) -> Result<(), WritingFault> {
+        let created = self.create_all(alloc, pictures)?;
+        for (object, puts) in created {
+            self.add_puts(alloc, object, puts)?;
+        }
+        Ok(())
     }
 }
 
@@ -190,9 +199,6 @@ fn with_joins(alloc: Global, pictures: &[Picture]) -> Result<Writing, NoMemory> 
 /// - `NoMemory` if an allocation failed.
 pub(crate) fn entries_of(alloc: Global, pictures: &[Picture]) -> Result<Vec<Entry>, WritingFault> {
     let mut writing = with_joins(alloc, pictures)?;
-    let created = writing.create_all(alloc, pictures)?;
-    for (object, chains) in created {
-        writing.add_chains(alloc, object, chains)?;
-    }
+    writing.write_all(alloc, pictures)?;
     Ok(writing.entries)
 }

@@ -13,14 +13,19 @@ use std::mem;
 /// Pairs of a key and a value.
 type PairList = Vec<(Key, Value)>;
 
-/// The pairs of one version's puts, each put on top of the one before.
-pub(crate) type Chain = Vec<PairList>;
+/// A put of an object: the site of its version, and what it gives.
+#[derive(Drop)]
+pub(crate) struct PlannedPut {
+    pub(crate) site: u32,
+    pub(crate) pairs: PairList,
+}
 
-/// What makes an object: the attributes of its creation, and a chain for each version.
+/// What makes an object: the attributes of its creation, and its puts. Those of a version are of one
+/// site, and each is put on top of the one before.
 #[derive(Drop)]
 pub(crate) struct ObjectPlan {
     pub(crate) attrs: PairList,
-    pub(crate) chains: Vec<Chain>,
+    pub(crate) puts: Vec<PlannedPut>,
 }
 
 /// The versions of an object that is planned, with what its creation gives, and the keys of tags.
@@ -31,17 +36,20 @@ struct Draft<'a> {
     tag_keys: Vec<Key>,
 }
 
-/// A chain in the making. No put of it is empty, and only the last one may take more pairs.
+/// Puts in the making. None is empty, and only the last one may take more pairs.
 #[derive(Drop)]
-struct ChainInMaking {
-    full: Chain,
+struct PutsInMaking {
+    puts: Vec<PlannedPut>,
+    /// The site of the last put.
+    site: u32,
     last: PairList,
 }
 
-impl ChainInMaking {
-    fn new(alloc: Global) -> ChainInMaking {
-        ChainInMaking {
-            full: Vec::new(alloc),
+impl PutsInMaking {
+    fn new(alloc: Global) -> PutsInMaking {
+        PutsInMaking {
+            puts: Vec::new(alloc),
+            site: 0,
             last: Vec::new(alloc),
         }
     }
@@ -49,19 +57,26 @@ impl ChainInMaking {
     /// Ends the last put, unless it is empty.
     fn end_put(&mut self, alloc: Global) -> Result<(), NoMemory> {
         if !self.last.is_empty() {
-            let put = mem::replace(&mut self.last, Vec::new(alloc));
-            self.full.push(put)?;
+            let site = self.site;
+            let pairs = mem::replace(&mut self.last, Vec::new(alloc));
+            self.puts.push(PlannedPut { site, pairs })?;
         }
+        Ok(())
+    }
+
+    /// Adds a pair to the last put, or to a further one if that is full.
+    fn add_pair(&mut self, alloc: Global, key: Key, value: Value) -> Result<(), NoMemory> {
+        if self.last.len() >= MAX_PAIRS {
+            self.end_put(alloc)?;
+        }
+        self.last.push((key, value))?;
         Ok(())
     }
 
     /// Adds pairs to the last put, and to further ones as it is full.
     fn add(&mut self, alloc: Global, pairs: PairList) -> Result<(), NoMemory> {
-        for pair in pairs {
-            if self.last.len() >= MAX_PAIRS {
-                self.end_put(alloc)?;
-            }
-            self.last.push(pair)?;
+        for (key, value) in pairs {
+            self.add_pair(alloc, key, value)?;
         }
         Ok(())
     }
@@ -74,7 +89,9 @@ fn push_copy(
     key: &Key,
     value: &Value,
 ) -> Result<(), NoMemory> {
-    pairs.push((key.copy(alloc)?, value.copy(alloc)?))?;
+    let key = key.copy(alloc)?;
+    let value = value.copy(alloc)?;
+    pairs.push((key, value))?;
     Ok(())
 }
 
@@ -92,16 +109,31 @@ fn common_pairs(alloc: Global, versions: &[AttrList]) -> Result<PairList, NoMemo
     Ok(pairs)
 }
 
+/// Adds the tag of the version at this place, if it has the key.
+fn push_tag(
+    alloc: Global,
+    tags: &mut PairList,
+    draft: &Draft,
+    place: usize,
+    key: &Key,
+) -> Result<(), WritingFault>
+    requires { place < length draft.now.versions.now }
+{
+    if let Some(value) = value_of(draft.versions[place].as_slice(), key) {
+        let tag = tag_of(alloc, draft.versions, place, key, value)?;
+        let key = key.copy(alloc)?;
+        tags.push((key, tag))?;
+    }
+    Ok(())
+}
+
 /// The tags of the version at this place.
 fn tags_of(alloc: Global, draft: &Draft, place: usize) -> Result<PairList, WritingFault>
     requires { place < length draft.now.versions.now }
 {
     let mut tags = Vec::new(alloc);
     for key in &draft.tag_keys {
-        if let Some(value) = value_of(draft.versions[place].as_slice(), key) {
-            let tag = tag_of(alloc, draft.versions, place, key, value)?;
-            tags.push((key.copy(alloc)?, tag))?;
-        }
+        push_tag(alloc, &mut tags, draft, place, key)?;
     }
     Ok(tags)
 }
@@ -134,23 +166,61 @@ fn pairs_behind_tags(
     Ok(pairs)
 }
 
-/// The puts of the version at this place. The first has its tags, filled up with other pairs. The
-/// values behind its tags come after the first put.
-fn chain_of(alloc: Global, draft: &Draft, place: usize) -> Result<Chain, WritingFault>
+/// Adds a version's first put. It has the tags, filled up with other pairs, and ends unless it gives
+/// nothing.
+fn add_first(
+    alloc: Global,
+    making: &mut PutsInMaking,
+    tags: PairList,
+    others: PairList,
+) -> Result<(), NoMemory> {
+    let before = making.puts.len();
+    making.add(alloc, tags)?;
+    making.add(alloc, others)?;
+    if making.puts.len() == before {
+        making.end_put(alloc)?;
+    }
+    Ok(())
+}
+
+/// Adds the puts of the version at this place. The values behind its tags come after its first put.
+fn add_puts(
+    alloc: Global,
+    making: &mut PutsInMaking,
+    draft: &Draft,
+    place: usize,
+) -> Result<(), WritingFault>
     requires { place < length draft.now.versions.now }
 {
     let version = &draft.versions[place];
     let tags = tags_of(alloc, draft, place)?;
     let behind = pairs_behind_tags(alloc, version, &tags)?;
-    let mut chain = ChainInMaking::new(alloc);
-    chain.add(alloc, tags)?;
-    chain.add(alloc, other_pairs(alloc, draft, version)?)?;
-    if chain.full.is_empty() {
-        chain.end_put(alloc)?;
+    add_first(alloc, making, tags, other_pairs(alloc, draft, version)?)?;
+    making.add(alloc, behind)?;
+    making.end_put(alloc)?;
+    Ok(())
+}
+
+/// The puts of all versions: those of the first version by site 1, those of the second by site 2, and
+/// so on.
+fn puts_of(alloc: Global, draft: &Draft) -> Result<Vec<PlannedPut>, WritingFault> {
+    let mut making = PutsInMaking::new(alloc);
+    for place in 0..draft.versions.len() {
+        making.site = making.site.saturating_add(1);
+        add_puts(alloc, &mut making, draft, place)?;
     }
-    chain.add(alloc, behind)?;
-    chain.end_put(alloc)?;
-    Ok(chain.full)
+    Ok(making.puts)
+}
+
+/// The draft of an object with these versions.
+fn draft_of<'a>(alloc: Global, versions: &'a [AttrList]) -> Result<Draft<'a>, WritingFault> {
+    let attrs = common_pairs(alloc, versions)?;
+    let tag_keys = tag_keys(alloc, versions, &attrs)?;
+    Ok(Draft {
+        versions,
+        attrs,
+        tag_keys,
+    })
 }
 
 /// What makes an object with these versions.
@@ -162,19 +232,10 @@ pub(crate) fn plan_object(
     alloc: Global,
     versions: &[AttrList],
 ) -> Result<ObjectPlan, WritingFault> {
-    let attrs = common_pairs(alloc, versions)?;
-    let tag_keys = tag_keys(alloc, versions, &attrs)?;
-    let draft = Draft {
-        versions,
-        attrs,
-        tag_keys,
-    };
-    let mut chains = Vec::new(alloc);
-    for place in 0..versions.len() {
-        chains.push(chain_of(alloc, &draft, place)?)?;
-    }
+    let draft = draft_of(alloc, versions)?;
+    let puts = puts_of(alloc, &draft)?;
     Ok(ObjectPlan {
         attrs: draft.attrs,
-        chains,
+        puts,
     })
 }

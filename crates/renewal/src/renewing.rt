@@ -1,14 +1,17 @@
 //! Renewing a room.
 
-ghost use Rattle.std.specs.Prelude.{IfOk};
+ghost use Rattle.std.specs.Prelude.{◌≡◌, IfOk};
+ghost use Rattle.renewal.specs.Drawn.{drawn};
 ghost use Rattle.renewal.specs.Renewed.{IsRenewed};
 
 use crate::certificate::certify_drawing;
 use crate::drawings::drawing_of;
 use crate::entries::entries_of;
+use crate::picture::Picture;
 use crate::reason::{Reason, WritingFault};
 use base_types::NoMemory;
 use room_core::RoomState;
+use rules::Entry;
 use std::alloc::Global;
 
 /// The result of renewing a room.
@@ -32,15 +35,28 @@ pub fn renewed(alloc: Global, old: &RoomState) -> Result<Renewal, NoMemory>
     ensures { IfOk result (IsRenewed old.now.room.entries) }
 {
     let pictures = drawing_of(alloc, old)?;
-    let entries = match entries_of(alloc, &pictures) {
-        Ok(entries) => entries,
-        Err(WritingFault::Declined(reason)) => return Ok(Renewal::Declined(reason)),
-        Err(WritingFault::NoMemory) => return Err(NoMemory),
-    };
+    match entries_of(alloc, &pictures) {
+        Ok(entries) => renewed_by(alloc, old, &pictures, &entries),
+        Err(WritingFault::Declined(reason)) => Ok(Renewal::Declined(reason)),
+        Err(WritingFault::NoMemory) => Err(NoMemory),
+    }
+}
+
+/// The room with these entries, if they are no more than those of the old room and draw this, which
+/// the old room draws.
+fn renewed_by(
+    alloc: Global,
+    old: &RoomState,
+    pictures: &[Picture],
+    entries: &[Entry],
+) -> Result<Renewal, NoMemory>
+    requires { pictures.now ≡ drawn old.now.room.entries }
+    ensures { IfOk result (IsRenewed old.now.room.entries) }
+{
     if entries.len() > old.entries().len() {
         return Ok(Renewal::Declined(Reason::TooLong));
     }
-    match certify_drawing(alloc, &pictures, &entries)? {
+    match certify_drawing(alloc, pictures, entries)? {
         Some(room) => Ok(Renewal::Room(room)),
         None => Ok(Renewal::Declined(Reason::Refused)),
     }

@@ -150,26 +150,55 @@ fn best_of<'a>(versions: &[AttrList], couples: &[Couple], keys: &'a [Key]) -> Op
     }
 }
 
-/// Some of the keys such that any two versions have one of them in common: at each step the best
-/// one for the couples that are left. `None` if some two versions have none of the keys in common.
-fn separating(
+/// Adds copies of some of the keys, such that any two versions have one of these in common: at each
+/// step the best one for the couples that are left. Returns false if some two versions have none
+/// of the keys in common.
+fn separate(
     alloc: Global,
     versions: &[AttrList],
     keys: &[Key],
-) -> Result<Option<Vec<Key>>, NoMemory> {
-    let mut found = Vec::new(alloc);
+    found: &mut Vec<Key>,
+) -> Result<bool, NoMemory> {
     let mut couples = all_couples(alloc, versions.len())?;
     for _ in 0..couples.len() {
         if couples.is_empty() {
             break;
         }
         let Some(key) = best_of(versions, &couples, keys) else {
-            return Ok(None);
+            return Ok(false);
         };
-        couples = left_by(alloc, versions, &couples, key)?;
         found.push(key.copy(alloc)?)?;
+        couples = left_by(alloc, versions, &couples, key)?;
     }
-    Ok(Some(found))
+    Ok(true)
+}
+
+/// Some of the versions' keys, except those of `without`, such that any two versions have one of
+/// them in common. `None` if there are no such keys.
+fn separating(
+    alloc: Global,
+    versions: &[AttrList],
+    without: &[(Key, Value)],
+) -> Result<Option<Vec<Key>>, NoMemory> {
+    let keys = keys_of(alloc, versions, without)?;
+    let mut found = Vec::new(alloc);
+    if separate(alloc, versions, &keys, &mut found)? {
+        Ok(Some(found))
+    } else {
+        Ok(None)
+    }
+}
+
+/// As `separating`, but with keys of `without` where the others do not suffice.
+fn separating_at_last(
+    alloc: Global,
+    versions: &[AttrList],
+    without: &[(Key, Value)],
+) -> Result<Option<Vec<Key>>, NoMemory> {
+    match separating(alloc, versions, without)? {
+        Some(keys) => Ok(Some(keys)),
+        None => separating(alloc, versions, &[]),
+    }
 }
 
 /// The keys of which the first puts have tags: mostly one, and none for an object of one version.
@@ -184,13 +213,7 @@ pub(crate) fn tag_keys(
     versions: &[AttrList],
     created: &[(Key, Value)],
 ) -> Result<Vec<Key>, WritingFault> {
-    let changed = keys_of(alloc, versions, created)?;
-    let mut found = separating(alloc, versions, &changed)?;
-    if found.is_none() {
-        let keys = keys_of(alloc, versions, &[])?;
-        found = separating(alloc, versions, &keys)?;
-    }
-    match found {
+    match separating_at_last(alloc, versions, created)? {
         Some(keys) if versions.iter().all(|version| fit_in_a_put(version, &keys)) => Ok(keys),
         _ => Err(Reason::Inseparable.into()),
     }

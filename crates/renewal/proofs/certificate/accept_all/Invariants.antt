@@ -1,5 +1,5 @@
 use Rattle.renewal.proofs.Replayed.{HasReplayed}
-use Rattle.renewal.proofs.certificate.replay.Given as goal
+use Rattle.renewal.proofs.certificate.accept_all.Given as goal
 
 -- the room of the entries so far
 abbrev pub invariant-loop-entry : goal.invariant-loop-entry

@@ -1,6 +1,6 @@
 use Rattle.std.proofs.Common.{◌≡◌, ◌∙◌, sym, true, false}
 use Rattle.renewal.proofs.Replayed.{replay_refused}
-use Rattle.renewal.proofs.certificate.replay.Goals as goal
+use Rattle.renewal.proofs.certificate.accept_all.Goals as goal
 
 pub returns-then-not-branch-clause-legal : goal.returns-then-not-branch-clause-legal
 returns-then-not-branch-clause-legal c =

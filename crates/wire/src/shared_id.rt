@@ -97,6 +97,28 @@ fn put_name(
     Ok(())
 }
 
+/// Puts names among others in order, and into their text. Returns false if one is there already.
+fn put_names(
+    alloc: Global,
+    names: &mut Vec<OpName>,
+    text: &mut String,
+    added: &[OpName],
+) -> Result<bool, NoMemory>
+    requires { string_bytes text.old ≡ compact_text (names_form names.old.items) }
+    ensures names { IfOk result (λ are_new. are_new ≡ true
+        → IsPermutation (added.now ++ names.old.items) names.new.items) }
+    ensures text { IfOk result (λ are_new. are_new ≡ true
+        → string_bytes text.new ≡ compact_text (names_form names.new.items)) }
+{
+    for name in added {
+        let Err(at) = names.binary_search(name) else {
+            return Ok(false);
+        };
+        put_name(alloc, names, text, at, *name)?;
+    }
+    Ok(true)
+}
+
 impl SharedId {
     /// The identifier with its text. Linear in its names.
     ///
@@ -148,11 +170,8 @@ impl SharedId {
     {
         let mut names = copy_names(alloc, self.names(), added.len())?;
         let mut text = self.text_to_grow(alloc)?;
-        for name in added {
-            let Err(at) = names.binary_search(name) else {
-                return Ok(None);
-            };
-            put_name(alloc, &mut names, &mut text, at, *name)?;
+        if !put_names(alloc, &mut names, &mut text, added)? {
+            return Ok(None);
         }
         SharedId::of_rising(alloc, names, text)
     }

@@ -3,13 +3,13 @@ use Rattle.std.specs.List.{insert}
 use Rattle.std.specs.List.Sorted.{IsPermutation}
 use Rattle.std.proofs.lemmas.List.{append_assoc, take_more}
 use Rattle.std.proofs.lemmas.List.Sorted.{IsPermutation-cons, IsPermutation-insert, IsPermutation-middle, IsPermutation-trans}
-use Rattle.wire.proofs.shared_id.SharedId.with_names.Goals as goal
+use Rattle.wire.proofs.shared_id.put_names.Goals as goal
 
 pub loop-name-preserved : goal.loop-name-preserved
 loop-name-preserved c =
     let i = c.loop-name.name-index in
     let old = c.loop-name.names.items in
-    let id = c.args.self.now in
+    let id = c.args.names.now.items in
     let x = c.name-item.result in
     let all = c.args.added.now in
     let first = take i all in

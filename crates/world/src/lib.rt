@@ -76,7 +76,10 @@ fn note_request_read(
 fn refusal_text(alloc: Global, refusal: Refusal) -> Result<String, NoMemory>
     ensures { IfOk result (λ text. IsTextFor (string_bytes text) (No 0 refusal)) }
 {
-    write_reply(alloc, &Reply::No { at: 0, refusal })
+    let reply = Reply::No { at: 0, refusal };
+    let text = write_reply(alloc, &reply);
+    drop(reply);
+    text
 }
 
 /// The room that a request is for, and the session's site there: by the session's seat, or by the
@@ -120,7 +123,9 @@ fn lone_text(alloc: Global, request: Request) -> Result<String, NoMemory>
     ensures { let refusal = lone_refusal (room_to_enter request) in
         IfOk result (λ text. IsTextFor (string_bytes text) (No 0 refusal)) }
 {
-    refusal_text(alloc, lone_refusal(&request))
+    let refusal = lone_refusal(&request);
+    drop(request);
+    refusal_text(alloc, refusal)
 }
 
 impl World {

@@ -1,16 +1,16 @@
 //! A room under its name, and the list of the rooms.
 
-ghost use Rattle.std.specs.Prelude.{true, ◌≡◌, ◌<◌, ℕ, List, length, map, Some, None, IfOk, OnOk, OnErr, string_bytes, slice_set};
+ghost use Rattle.std.specs.Prelude.{true, ◌≡◌, ◌<◌, [], ℕ, List, length, map, Some, None, IfOk, OnOk, OnErr, string_bytes, slice_set};
 ghost use Rattle.rules.specs.Records.{IsLegal};
 ghost use Rattle.wire.specs.Form.{AreNotes, IsReply, IsRequest, is_at};
 ghost use Rattle.wire.specs.Notes.{all_notes, notes_after};
 ghost use Rattle.wire.specs.declared.reply.Reply.TheVariants.{Notes as NotesOf};
-ghost use Rattle.room_core.specs.Room.{with_entry};
+ghost use Rattle.room_core.specs.Room.{empty_room, with_entry};
 ghost use Rattle.room_core.specs.steps.Plans.{IsPlanReady, Plans, entry_added};
 ghost use Rattle.notes.specs.Notes.{notes_at};
 ghost use Rattle.world.specs.Rooms.{place_of};
 ghost use Rattle.world.specs.Alone.{move_of, notes_after_move, use_after_move};
-ghost use Rattle.world.specs.steps.State.{Named, names_in, rooms_in, room_at, is_used, uses_in, use_at, notes_of_rooms, notes_of, empty_rooms};
+ghost use Rattle.world.specs.steps.State.{Named, names_in, rooms_in, room_at, is_used, no_sites, uses_in, use_at, notes_of_rooms, notes_of, empty_rooms};
 ghost use Rattle.world.specs.steps.Steps.{outside_answer, asker_answer, place_answer, IsTextFor, RepliesTo};
 
 use crate::seats::{Asker, Seat, move_of, move_seat};
@@ -50,6 +50,26 @@ impl Model for NamedRoom {
     ghost invariant = { λ r. AllByRecursion IsEntry r.state.room.entries };
 }
 
+/// A room of this name, with nobody in it.
+fn empty_room(alloc: Global, name: &RoomName, limits: Limits) -> Result<NamedRoom, NoMemory>
+    ensures { IfOk result (λ room. room ≡ record {
+      name = name.now;
+      room = empty_room limits;
+      in_use = no_sites;
+      notes = [];
+    }) }
+{
+    let name = name.copy(alloc)?;
+    let in_use = SitesInUse::none(alloc)?;
+    let state = RoomState::new(alloc, limits)?;
+    Ok(NamedRoom {
+        name,
+        state,
+        in_use,
+        notes: Notes::none(alloc),
+    })
+}
+
 /// Rooms of these names, with nobody in them.
 pub(crate) fn empty_rooms(
     alloc: Global,
@@ -60,15 +80,7 @@ pub(crate) fn empty_rooms(
 {
     let mut rooms = Vec::with_capacity(alloc, names.len())?;
     for name in names {
-        let name = name.copy(alloc)?;
-        let state = RoomState::new(alloc, limits)?;
-        let in_use = SitesInUse::none(alloc)?;
-        rooms.push(NamedRoom {
-            name,
-            state,
-            in_use,
-            notes: Notes::none(alloc),
-        })?;
+        rooms.push(empty_room(alloc, name, limits)?)?;
     }
     Ok(rooms)
 }
@@ -93,7 +105,11 @@ fn plan(
 {
     match site {
         Some(site) => room.plan(alloc, site, request),
-        None => plan_outside(alloc, room, in_use, &request),
+        None => {
+            let planned = plan_outside(alloc, room, in_use, &request);
+            drop(request);
+            planned
+        }
     }
 }
 
@@ -155,11 +171,10 @@ fn put_in_place(
 {
     match answer_text(alloc, seats, asker, &planned) {
         Ok(text) => {
-            let _reply = room.commit(planned);
+            drop(room.commit(planned));
             Ok(text)
         }
         Err(NoMemory) => {
-            // By a call, which is proved once: where a plan goes out of scope is long to prove.
             drop(planned);
             Err(NoMemory)
         }
@@ -190,7 +205,10 @@ fn notes_text(alloc: Global, at: u32, notes: NoteList) -> Result<String, NoMemor
     requires notes { AreNotes notes }
     ensures { IfOk result (λ text. IsTextFor (string_bytes text) (NotesOf at notes)) }
 {
-    write_reply(alloc, &Reply::Notes { at, notes })
+    let reply = Reply::Notes { at, notes };
+    let text = write_reply(alloc, &reply);
+    drop(reply);
+    text
 }
 
 impl NamedRoom {

@@ -89,8 +89,7 @@ impl ObjectChanges {
         ensures object { self.new.object ≡ self.old.object }
         ensures ops { self.new.ops ≡ self.old.ops }
     {
-        self.catch_up(alloc)?;
-        let candidates = self.candidates(alloc, &op, known)?;
+        let candidates = self.candidates_now(alloc, &op, known)?;
         self.rows.plan(alloc, op, base, &candidates)
     }
 
@@ -166,6 +165,27 @@ impl ObjectChanges {
     {
         self.sites.catch_up(alloc, self.rows.ops())?;
         self.keys.catch_up(alloc, self.rows.ops())
+    }
+
+    /// Of the changes that a change to be added doesn't know, those that may be at odds with it, by
+    /// the indexes brought up to date. The changes stay as they are.
+    fn candidates_now(
+        &mut self,
+        alloc: Global,
+        op: &Op,
+        known: &Known,
+    ) -> Result<PlaceSet, NoMemory>
+        requires { known_of known.now (length self.old.ops)
+            ≡ places_counted self.old.ops op.now.seen }
+        ensures within { IfOk result (λ candidates.
+            All (λ place. place < length self.old.ops) candidates) }
+        ensures same { IfOk result (λ candidates.
+            filter (at_odds_at self.old.ops op.now.body) candidates
+            ≡ filter (at_odds_at self.old.ops op.now.body) (places_unknown self.old.ops op.now)) }
+        ensures kept { self.new ≡ self.old }
+    {
+        self.catch_up(alloc)?;
+        self.candidates(alloc, op, known)
     }
 
     /// The places of the changes that may be at odds with a body. For a put they are the drops, the

@@ -73,10 +73,17 @@ pub fn successor_for(
 pub fn succeed(alloc: Global, room: RoomState) -> Result<Succession, NoMemory>
     ensures { IfOk result (IsSuccession room.room) }
 {
-    let new = match successor_for(alloc, &room)? {
-        Ok(new) => new,
-        Err(obstacle) => return Ok(Succession::Declined(room, obstacle)),
-    };
+    match successor_for(alloc, &room)? {
+        Ok(new) => succeed_as(alloc, room, new),
+        Err(obstacle) => Ok(Succession::Declined(room, obstacle)),
+    }
+}
+
+/// Ends the old room, which goes on as the new one. Declines if the record is full.
+fn succeed_as(alloc: Global, room: RoomState, new: RoomState) -> Result<Succession, NoMemory>
+    requires { IsSuccessor room.room new.room }
+    ensures { IfOk result (IsSuccession room.room) }
+{
     let count = new.entries().len() as u32;
     let mut old = room;
     if old.end(alloc, count)? {

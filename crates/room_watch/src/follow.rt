@@ -19,7 +19,7 @@ use std::random::RandomSource;
 use std::sync::Arc;
 use std::thread;
 use std::time::{Clock, Duration};
-use wire::{Reply, Request};
+use wire::{EntryList, Reply, Request};
 
 /// The pause after a wait that brought no entry, in milliseconds. Few come from a server that holds
 /// waits.
@@ -71,29 +71,33 @@ pub fn lines_of_entries(
     Ok(lines)
 }
 
-/// Waits for entries, and takes them. Returns the lines that they add, or `None` if none came.
+/// The entries of a page that begins at this place. `None` if the reply is no such page.
+fn entries_from(reply: Reply, from: u32) -> Option<EntryList> {
+    match reply {
+        Reply::Entries {
+            at: _,
+            from: place,
+            entries,
+        } => (place == from).then_some(entries),
+        other => {
+            drop(other);
+            None
+        }
+    }
+}
+
+/// Waits for entries, and takes them. Returns the lines that they add, which are none if none came.
 fn news<A: Asks>(
     alloc: Global,
     session: &mut A,
     replica: &mut Replica,
-) -> Result<Option<String>, WatchFault> {
+) -> Result<String, WatchFault> {
     let from = replica.count_taken();
-    let reply = reply_to(alloc, session, &Request::Pull { from, waits: true })?;
-    let Reply::Entries {
-        at: _,
-        from: place,
-        entries,
-    } = reply
-    else {
-        return Err(WatchFault::Session);
-    };
-    if place != from {
-        return Err(WatchFault::Session);
+    let reply = reply_to(alloc, session, Request::Pull { from, waits: true })?;
+    match entries_from(reply, from) {
+        Some(entries) => lines_of_entries(alloc, replica, entries.as_slice()),
+        None => Err(WatchFault::Session),
     }
-    if entries.as_slice().is_empty() {
-        return Ok(None);
-    }
-    Ok(Some(lines_of_entries(alloc, replica, entries.as_slice())?))
 }
 
 /// Leaves the room, which has ended. Returns the newest one of the chain of this room, once the
@@ -114,9 +118,25 @@ fn leave_for_newest<C: Clock, A: Asks>(
     Err(WatchFault::Session)
 }
 
-/// Writes the lines of news until the session or the output fails. Where the room ends, writes the
-/// lines of the one that goes on with it. Returns the fault.
-fn follow<C: Clock, A: Asks, W: Write>(
+/// Waits for entries, takes them, and writes the lines that they add.
+fn write_news<C: Clock, A: Asks, W: Write>(
+    clock: &C,
+    alloc: Global,
+    session: &mut A,
+    replica: &mut Replica,
+    output: &mut W,
+) -> Result<(), WatchFault> {
+    let before = replica.count_taken();
+    let lines = news(alloc, session, replica)?;
+    if replica.count_taken() == before {
+        thread::sleep(clock, Duration::from_millis(PAUSE_MILLISECONDS));
+        return Ok(());
+    }
+    write_lines(output, lines.as_str())
+}
+
+/// Writes the lines of all objects of a room, and then those of news until the room ends.
+fn follow_room<C: Clock, A: Asks, W: Write>(
     clock: &C,
     alloc: Global,
     session: &mut A,
@@ -125,14 +145,27 @@ fn follow<C: Clock, A: Asks, W: Write>(
 ) -> Result<(), WatchFault> {
     let mut replica = show_room(alloc, session, room, output)?;
     for _wait in 0..u64::MAX {
-        match news(alloc, session, &mut replica)? {
-            Some(lines) => write_lines(output, lines.as_str())?,
-            None => thread::sleep(clock, Duration::from_millis(PAUSE_MILLISECONDS)),
-        }
+        write_news(clock, alloc, session, &mut replica, output)?;
         if replica.has_ended() {
-            let newest = leave_for_newest(clock, alloc, session, room)?;
-            replica = show_room(alloc, session, &newest, output)?;
+            return Ok(());
         }
+    }
+    Err(WatchFault::Session)
+}
+
+/// Follows the room, and where it ends the one that goes on with it, until the session or the
+/// output fails. Returns the fault.
+fn follow<C: Clock, A: Asks, W: Write>(
+    clock: &C,
+    alloc: Global,
+    session: &mut A,
+    room: &RoomName,
+    output: &mut W,
+) -> Result<(), WatchFault> {
+    follow_room(clock, alloc, session, room, output)?;
+    for _room in 0..u64::MAX {
+        let newest = leave_for_newest(clock, alloc, session, room)?;
+        follow_room(clock, alloc, session, &newest, output)?;
     }
     Err(WatchFault::Session)
 }

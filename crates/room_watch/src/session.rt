@@ -49,13 +49,24 @@ fn next_text<S: Read + Write + Drop, K: MaskKeys + Drop>(
     Err(WatchFault::Session)
 }
 
+/// Sends a request, and returns the text of the reply.
+pub(crate) fn text_for<A: Asks>(
+    alloc: Global,
+    session: &mut A,
+    request: Request,
+) -> Result<Utf8Bytes, WatchFault> {
+    let text = session.ask(alloc, &request);
+    drop(request);
+    text
+}
+
 /// Sends a request, and returns the reply.
 pub(crate) fn reply_to<A: Asks>(
     alloc: Global,
     session: &mut A,
-    request: &Request,
+    request: Request,
 ) -> Result<Reply, WatchFault> {
-    let text = session.ask(alloc, request)?;
+    let text = text_for(alloc, session, request)?;
     Ok(read_reply(alloc, text.as_bytes())?)
 }
 
@@ -70,9 +81,15 @@ pub(crate) fn connect<R: Net>(rt: &R, address: &str) -> Result<Uninterrupted<R::
     }
 }
 
-/// Opens a session over the stream. The path of its request is a slash and the name of the first
-/// room of the chain, so it may enter the room also where sessions are confined to the chain of
-/// their path.
+/// The address to ask for. Its path is a slash and the name of the first room of the chain, so the
+/// session may enter the room also where sessions are confined to the chain of their path.
+fn url_of(alloc: Global, room: &RoomName) -> Result<String, WatchFault> {
+    let first = room.first(alloc)?;
+    let name = first.text();
+    Ok(format!(in alloc; "ws://localhost/{name}")?)
+}
+
+/// Opens a session over the stream, with the request of `url_of`.
 pub(crate) fn session_over<'a, R, S>(
     rt: &'a R,
     alloc: Global,
@@ -83,14 +100,30 @@ where
     R: RandomSource,
     S: Read + Write + Drop,
 {
-    let first = room.first(alloc)?;
-    let name = first.text();
-    let url = format!(in alloc; "ws://localhost/{name}")?;
+    let url = url_of(alloc, room)?;
     let request = request_of(alloc, &url)?;
     match client(alloc, rt, request, stream) {
         Ok((socket, _response)) => Ok(socket),
         Err(HandshakeError::Failure(fault)) => Err(fault.into()),
         Err(HandshakeError::Interrupted(_handshake)) => Err(WatchFault::Session),
+    }
+}
+
+/// Reads a message of a session that is being closed. Returns whether the closing handshake is
+/// completed.
+fn is_closed<S: Read + Write + Drop, K: MaskKeys + Drop>(
+    socket: &mut WebSocket<S, K>,
+) -> Result<bool, WatchFault> {
+    match socket.read() {
+        Ok(message) => {
+            drop(message);
+            Ok(false)
+        }
+        Err(Error::ConnectionClosed) => Ok(true),
+        Err(error) => {
+            drop(error);
+            Err(WatchFault::Session)
+        }
     }
 }
 
@@ -104,10 +137,8 @@ pub(crate) fn close<S: Read + Write + Drop, K: MaskKeys + Drop>(
         reason: Utf8Bytes::from_static(""),
     }))?;
     for _passed_over in 0..=MAX_PASSED_OVER {
-        match socket.read() {
-            Ok(_) => {}
-            Err(Error::ConnectionClosed) => return Ok(()),
-            Err(_) => return Err(WatchFault::Session),
+        if is_closed(socket)? {
+            return Ok(());
         }
     }
     Err(WatchFault::Session)

@@ -4,7 +4,7 @@ ghost use Rattle.std.specs.Prelude.{◌≡◌, IfOk, string_bytes};
 ghost use Rattle.room_watch.specs.steps.Lines.{shown_line};
 
 use crate::fault::WatchFault;
-use crate::session::{Asks, close, connect, reply_to, session_over};
+use crate::session::{Asks, close, connect, reply_to, session_over, text_for};
 use base_types::{MAX_SITE, OpName, RoomName};
 use command_fault::Fault;
 use late_join::Replica;
@@ -20,10 +20,63 @@ use wire::{Reply, Request, write_reply};
 enum EnterReply {
     /// The session is in the room.
     Entered,
-    /// Each site of the room is in use.
+    /// The site is in use.
+    InUse,
+    /// The room has no such site.
     NoSite,
     /// The room's chain goes on in this one.
     Renewed(RoomName),
+    /// Another refusal.
+    Refused,
+    /// A reply to another request.
+    Other,
+}
+
+impl EnterReply {
+    /// What this reply gave.
+    fn of(reply: Reply) -> EnterReply {
+        match reply {
+            Reply::Joined { .. } | Reply::Returned { .. } => EnterReply::Entered,
+            Reply::Renewed { at: _, room } => EnterReply::Renewed(room),
+            Reply::No { at: _, refusal } => match refusal {
+                Refusal::SiteInUse => EnterReply::InUse,
+                Refusal::NoSuchSite => EnterReply::NoSite,
+                _ => EnterReply::Refused,
+            },
+            other => {
+                drop(other);
+                EnterReply::Other
+            }
+        }
+    }
+}
+
+/// Asks to enter a room.
+fn ask_to_enter<A: Asks>(
+    alloc: Global,
+    session: &mut A,
+    request: Request,
+) -> Result<EnterReply, WatchFault> {
+    Ok(EnterReply::of(reply_to(alloc, session, request)?))
+}
+
+/// Asks to join a room.
+fn ask_to_join<A: Asks>(
+    alloc: Global,
+    session: &mut A,
+    room: RoomName,
+) -> Result<EnterReply, WatchFault> {
+    ask_to_enter(alloc, session, Request::Join { room })
+}
+
+/// Asks to come back to a room.
+fn ask_to_come_back<A: Asks>(
+    alloc: Global,
+    session: &mut A,
+    room: RoomName,
+    site: u32,
+) -> Result<EnterReply, WatchFault> {
+    ask_to_enter(alloc, session, Request::Back { room, site })
 }
 
 /// Comes back as the first site of the room that no session is in as.
@@ -33,19 +86,10 @@ fn come_back<A: Asks>(
     room: &RoomName,
 ) -> Result<EnterReply, WatchFault> {
     for site in 1..=MAX_SITE {
-        let room = room.copy(alloc)?;
-        match reply_to(alloc, session, &Request::Back { room, site })? {
-            Reply::Returned { .. } => return Ok(EnterReply::Entered),
-            Reply::Renewed { at: _, room } => return Ok(EnterReply::Renewed(room)),
-            Reply::No {
-                refusal: Refusal::SiteInUse,
-                ..
-            } => {}
-            Reply::No {
-                refusal: Refusal::NoSuchSite,
-                ..
-            } => return Ok(EnterReply::NoSite),
-            _ => return Err(WatchFault::Session),
+        match ask_to_come_back(alloc, session, room.copy(alloc)?, site)? {
+            EnterReply::InUse => {}
+            EnterReply::Refused | EnterReply::Other => return Err(WatchFault::Session),
+            entrance => return Ok(entrance),
         }
     }
     Ok(EnterReply::NoSite)
@@ -57,10 +101,9 @@ fn join<A: Asks>(
     session: &mut A,
     room: &RoomName,
 ) -> Result<EnterReply, WatchFault> {
-    let room = room.copy(alloc)?;
-    match reply_to(alloc, session, &Request::Join { room })? {
-        Reply::Joined { .. } => Ok(EnterReply::Entered),
-        Reply::Renewed { at: _, room } => Ok(EnterReply::Renewed(room)),
+    match ask_to_join(alloc, session, room.copy(alloc)?)? {
+        EnterReply::Entered => Ok(EnterReply::Entered),
+        EnterReply::Renewed(newest) => Ok(EnterReply::Renewed(newest)),
         _ => Err(WatchFault::Session),
     }
 }
@@ -79,7 +122,7 @@ fn enter<A: Asks>(
     match entrance {
         EnterReply::Entered => Ok(None),
         EnterReply::Renewed(newest) => Ok(Some(newest)),
-        EnterReply::NoSite => Err(WatchFault::Session),
+        _ => Err(WatchFault::Session),
     }
 }
 
@@ -104,33 +147,49 @@ pub(crate) fn newest_of<A: Asks>(
     session: &mut A,
     room: &RoomName,
 ) -> Result<Option<RoomName>, WatchFault> {
-    let room = room.copy(alloc)?;
-    match reply_to(alloc, session, &Request::Join { room })? {
-        Reply::Renewed { at: _, room } => Ok(Some(room)),
-        Reply::No { .. } => Ok(None),
-        _ => Err(WatchFault::Session),
+    match ask_to_join(alloc, session, room.copy(alloc)?)? {
+        EnterReply::Renewed(newest) => Ok(Some(newest)),
+        EnterReply::InUse | EnterReply::NoSite | EnterReply::Refused => Ok(None),
+        EnterReply::Entered | EnterReply::Other => Err(WatchFault::Session),
     }
+}
+
+/// Asks for the next page of the record, and takes its entries. Returns whether that was the last.
+fn pull_page<A: Asks>(
+    alloc: Global,
+    session: &mut A,
+    replica: &mut Replica,
+) -> Result<bool, WatchFault> {
+    let from = replica.count_taken();
+    let page = text_for(alloc, session, Request::Pull { from, waits: false })?;
+    let fed = replica.feed_page(alloc, page.as_bytes())?;
+    let taken = replica.count_taken();
+    if fed.from != from || taken > fed.at || (taken != fed.at && fed.count == 0) {
+        return Err(WatchFault::Session);
+    }
+    Ok(taken == fed.at)
+}
+
+/// Takes the entries of all pages that are left.
+fn pull_pages<A: Asks>(
+    alloc: Global,
+    session: &mut A,
+    replica: &mut Replica,
+) -> Result<(), WatchFault> {
+    // Each page but the last has an entry, so there are at most this many pages.
+    for _page in 0..=Limits::MAX_ENTRIES {
+        if pull_page(alloc, session, replica)? {
+            return Ok(());
+        }
+    }
+    Err(WatchFault::Session)
 }
 
 /// A replica of the whole record, read page by page.
 fn pull_record<A: Asks>(alloc: Global, session: &mut A) -> Result<Replica, WatchFault> {
     let mut replica = Replica::new(alloc, Limits::full())?;
-    // Each page but the last has an entry, so there are at most this many pages.
-    for _page in 0..=Limits::MAX_ENTRIES {
-        let from = replica.count_taken();
-        let text = session.ask(alloc, &Request::Pull { from, waits: false })?;
-        let fed = replica.feed_page(alloc, text.as_bytes())?;
-        if fed.from != from || replica.count_taken() > fed.at {
-            return Err(WatchFault::Session);
-        }
-        if replica.count_taken() == fed.at {
-            return Ok(replica);
-        }
-        if fed.count == 0 {
-            return Err(WatchFault::Session);
-        }
-    }
-    Err(WatchFault::Session)
+    pull_pages(alloc, session, &mut replica)?;
+    Ok(replica)
 }
 
 /// The line of what the replica shows of an object.
@@ -142,26 +201,43 @@ pub(crate) fn line_of(
     ensures { IfOk result (λ line. string_bytes line ≡ shown_line replica.now.taken object) }
 {
     let reply = replica.show(alloc, object)?;
-    let mut line = write_reply(alloc, &reply)?;
+    let text = write_reply(alloc, &reply);
+    drop(reply);
+    let mut line = text?;
     line.push('\n')?;
     Ok(line)
+}
+
+/// Adds the line of an object.
+fn push_line(
+    alloc: Global,
+    lines: &mut String,
+    replica: &Replica,
+    object: OpName,
+) -> Result<(), WatchFault> {
+    let line = line_of(alloc, replica, object)?;
+    lines.push_str(line.as_str())?;
+    Ok(())
 }
 
 /// The lines of all objects.
 fn lines_of(alloc: Global, replica: &Replica) -> Result<String, WatchFault> {
     let mut lines = String::new(alloc);
-    for object in replica.objects(alloc)? {
-        let line = line_of(alloc, replica, object)?;
-        lines.push_str(line.as_str())?;
+    for object in &replica.objects(alloc)? {
+        push_line(alloc, &mut lines, replica, *object)?;
     }
     Ok(lines)
 }
 
 /// Leaves the room.
 pub(crate) fn leave_room<A: Asks>(alloc: Global, session: &mut A) -> Result<(), WatchFault> {
-    match reply_to(alloc, session, &Request::Leave)? {
-        Reply::Left { .. } => Ok(()),
-        _ => Err(WatchFault::Session),
+    let reply = reply_to(alloc, session, Request::Leave)?;
+    let has_left = matches!(reply, Reply::Left { .. });
+    drop(reply);
+    if has_left {
+        Ok(())
+    } else {
+        Err(WatchFault::Session)
     }
 }
 
@@ -173,6 +249,38 @@ pub(crate) fn write_lines<W: Write>(output: &mut W, lines: &str) -> Result<(), W
     Ok(())
 }
 
+/// Leaves the room, which has ended, and enters the newest of its chain.
+fn go_on<A: Asks>(alloc: Global, session: &mut A, room: &RoomName) -> Result<Replica, WatchFault> {
+    leave_room(alloc, session)?;
+    let newest = newest_of(alloc, session, room)?;
+    enter_and_pull(alloc, session, newest.as_ref().unwrap_or(room))
+}
+
+/// Enters the room of this name, or the newest of its chain if it has ended. Returns the replica
+/// that it read.
+fn enter_newest<A: Asks>(
+    alloc: Global,
+    session: &mut A,
+    room: &RoomName,
+) -> Result<Replica, WatchFault> {
+    let replica = enter_and_pull(alloc, session, room)?;
+    if !replica.has_ended() {
+        return Ok(replica);
+    }
+    drop(replica);
+    go_on(alloc, session, room)
+}
+
+/// Writes the lines of all objects.
+fn show_objects<W: Write>(
+    alloc: Global,
+    replica: &Replica,
+    output: &mut W,
+) -> Result<(), WatchFault> {
+    let lines = lines_of(alloc, replica)?;
+    write_lines(output, lines.as_str())
+}
+
 /// Enters the room of this name, or the newest of its chain if it has ended, and writes the lines
 /// of all its objects. Returns the replica that it read.
 pub(crate) fn show_room<A: Asks, W: Write>(
@@ -181,14 +289,8 @@ pub(crate) fn show_room<A: Asks, W: Write>(
     room: &RoomName,
     output: &mut W,
 ) -> Result<Replica, WatchFault> {
-    let mut replica = enter_and_pull(alloc, session, room)?;
-    if replica.has_ended() {
-        leave_room(alloc, session)?;
-        let newest = newest_of(alloc, session, room)?;
-        replica = enter_and_pull(alloc, session, newest.as_ref().unwrap_or(room))?;
-    }
-    let lines = lines_of(alloc, &replica)?;
-    write_lines(output, lines.as_str())?;
+    let replica = enter_newest(alloc, session, room)?;
+    show_objects(alloc, &replica, output)?;
     Ok(replica)
 }
 

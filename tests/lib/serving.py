@@ -60,7 +60,7 @@ def program():
 
 def has_program():
     """Returns whether there is a program. It does not build one."""
-    built = ROOT / "out/proved/grace", ROOT / "out/unproved/grace"
+    built = (ROOT / "out" / name / "grace" for name in ("proved", "released", "unproved"))
     return bool(os.environ.get("GRACE")) or any(program.exists() for program in built)
 
 

@@ -22,7 +22,7 @@ def copy_files(folder, *paths):
 def build_program(folder, file, text, other):
     """Builds the program in this folder without its proofs, with another text in place of one that a file of it has.
     Returns its path."""
-    copy_files(folder, "build", "crates", "crates.txt", "HANDLES")
+    copy_files(folder, "build", "split_module", "crates", "crates.txt", "HANDLES")
     before = (folder / file).read_text()
     if text not in before:
         raise ValueError(f"{file} does not have {text}")

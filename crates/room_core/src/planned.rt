@@ -1,6 +1,6 @@
 //! An answer that is ready and not yet carried out.
 
-ghost use Rattle.std.specs.Prelude.{◌≡◌, None, option_map};
+ghost use Rattle.std.specs.Prelude.{◌≡◌, None, Some, option_map};
 ghost use Rattle.std.specs.Arc.{arc_value};
 ghost use Rattle.room_core.specs.steps.Plans.{entry_added};
 
@@ -11,10 +11,18 @@ use std::sync::Arc;
 use wire::Reply;
 
 /// A reply that is ready, and the entry that is added with it, if there is one.
-#[derive(Drop)]
 pub struct Planned {
-    pub(crate) reply: Reply,
-    pub(crate) addition: Option<Addition>,
+    reply: Reply,
+    addition: Option<Addition>,
+}
+
+impl Drop for Planned {
+    fn drop(self) {
+        let Planned {
+            reply: _,
+            addition: _,
+        } = self;
+    }
 }
 
 impl Model for Planned {
@@ -40,6 +48,24 @@ impl Planned {
         match &self.addition {
             Some(addition) => Some(addition.entry()),
             None => None,
+        }
+    }
+
+    /// The reply and the addition.
+    pub(crate) fn into_parts(self) -> (Reply, Option<Addition>)
+        ensures { result ≡ (self.reply, self.addition) }
+    {
+        let Planned { reply, addition } = self;
+        (reply, addition)
+    }
+
+    /// A reply, and the entry that is added with it.
+    pub(crate) fn with_addition(reply: Reply, addition: Addition) -> Planned
+        ensures { result ≡ record { reply = reply; addition = Some addition } }
+    {
+        Planned {
+            reply,
+            addition: Some(addition),
         }
     }
 

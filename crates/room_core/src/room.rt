@@ -27,11 +27,21 @@ use std::sync::Arc;
 use wire::{Reply, Request};
 
 /// A room: its record of joins and operations, and what these draw.
-#[derive(Drop)]
 pub struct RoomState {
     drawing: Drawing,
     sites: u32,
     has_ended: bool,
+}
+
+// Crates above prove one call for this, and not the drop of each part.
+impl Drop for RoomState {
+    fn drop(self) {
+        let RoomState {
+            drawing: _,
+            sites: _,
+            has_ended: _,
+        } = self;
+    }
 }
 
 impl Model for RoomState {
@@ -155,6 +165,7 @@ impl RoomState {
         ensures { Plans self.old self.new (answer self.old.room site request) result }
     {
         if site == 0 || site > self.sites() {
+            drop(request);
             return Ok(Planned::of_reply(outside_refusal(Refusal::NotJoined)));
         }
         self.plan_asked(alloc, site, request)
@@ -206,7 +217,7 @@ impl RoomState {
         ensures reply { result ≡ planned.reply }
         ensures room { self.new.room ≡ with_entry self.old.room (entry_added planned.addition) }
     {
-        let Planned { reply, addition } = planned;
+        let (reply, addition) = planned.into_parts();
         if let Some(addition) = addition {
             self.add(addition);
         }
@@ -269,7 +280,12 @@ impl RoomState {
         ensures entries { map arc_value result.items ≡ self.room.entries }
         ensures legal { IsLegal self.room.limits self.room.entries }
     {
-        self.drawing.into_entries()
+        let RoomState {
+            drawing,
+            sites: _,
+            has_ended: _,
+        } = self;
+        drawing.into_entries()
     }
 }
 

@@ -21,9 +21,14 @@ pub(crate) enum Form {
 
 /// A request of a site, for `RoomState::answer`. It has the memory for its operation already, so that
 /// a room behind a lock needs less time for the answer. Contracts see the site and the request.
-#[derive(Drop)]
 pub struct SiteRequest {
     form: Form,
+}
+
+impl Drop for SiteRequest {
+    fn drop(self) {
+        let SiteRequest { form: _ } = self;
+    }
 }
 
 impl Model for SiteRequest {
@@ -55,7 +60,8 @@ impl SiteRequest {
     pub(crate) fn into_form(self) -> Form
         ensures { request_in result ≡ self }
     {
-        self.form
+        let SiteRequest { form } = self;
+        form
     }
 }
 

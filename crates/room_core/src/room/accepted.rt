@@ -82,7 +82,7 @@ impl RoomState {
         ensures room { self.new.room ≡ with_entry self.old.room (entry_added planned.addition) }
     {
         let is_added = planned.entry().is_some();
-        self.commit(planned);
+        drop(self.commit(planned));
         is_added
     }
 

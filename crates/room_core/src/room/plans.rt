@@ -63,10 +63,8 @@ impl RoomState {
         let at = self.drawing.len();
         let site = self.sites() + 1;
         let addition = self.drawing.plan_join(alloc, site)?;
-        Ok(Planned {
-            reply: Reply::Joined { at, site },
-            addition: Some(addition),
-        })
+        let reply = Reply::Joined { at, site };
+        Ok(Planned::with_addition(reply, addition))
     }
 }
 
@@ -85,12 +83,14 @@ impl RoomState {
             (operation_answer self.old.room (operation_by site seq seen body)) result }
     {
         let Some(name) = OpName::new(site, seq) else {
+            drop((seen, body));
             return Ok(self.refuse_out_of_range(site, seq));
         };
         // That a vector is in range is part of what stays true of it.
         let _pairs = seen.pairs();
         let op = Op { name, seen, body };
         if let Some(refusal) = self.order_refusal(&op) {
+            drop(op);
             return Ok(self.refuse(refusal));
         }
         self.plan_in_order(alloc, SharedOp::new(alloc, op)?)
@@ -155,10 +155,7 @@ impl RoomState {
             },
             None => Reply::Made { at, name },
         };
-        Planned {
-            reply,
-            addition: Some(addition),
-        }
+        Planned::with_addition(reply, addition)
     }
 
     /// The answer to an operation of a site that has joined, whose number is out of range.

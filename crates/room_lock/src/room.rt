@@ -49,13 +49,24 @@ use wire::{NoteRequest, Reply, Request};
 
 /// What a room's lock guards: the room and its history. The shelf holds the parts of the sites that
 /// no session is in as. Only other sites have notes.
-#[derive(Drop)]
 pub(crate) struct Room<P: RoomHistories> {
     state: RoomState,
     account: Account,
     opening: Opening<P>,
     shelf: Vec<Option<Part<P>>>,
     notes: Notes,
+}
+
+impl<P: RoomHistories> Drop for Room<P> {
+    fn drop(self) {
+        let Room {
+            state: _,
+            account: _,
+            opening: _,
+            shelf: _,
+            notes: _,
+        } = self;
+    }
 }
 
 impl<P: RoomHistories> Model for Room<P> {

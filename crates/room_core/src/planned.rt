@@ -1,6 +1,6 @@
 //! An answer that is ready and not yet carried out.
 
-ghost use Rattle.std.specs.Prelude.{◌≡◌, None, Some, option_map};
+ghost use Rattle.std.specs.Prelude.{◌≡◌, None, option_map};
 ghost use Rattle.std.specs.Arc.{arc_value};
 ghost use Rattle.room_core.specs.steps.Plans.{entry_added};
 
@@ -12,8 +12,8 @@ use wire::Reply;
 
 /// A reply that is ready, and the entry that is added with it, if there is one.
 pub struct Planned {
-    reply: Reply,
-    addition: Option<Addition>,
+    pub(crate) reply: Reply,
+    pub(crate) addition: Option<Addition>,
 }
 
 impl Drop for Planned {
@@ -57,16 +57,6 @@ impl Planned {
     {
         let Planned { reply, addition } = self;
         (reply, addition)
-    }
-
-    /// A reply, and the entry that is added with it.
-    pub(crate) fn with_addition(reply: Reply, addition: Addition) -> Planned
-        ensures { result ≡ record { reply = reply; addition = Some addition } }
-    {
-        Planned {
-            reply,
-            addition: Some(addition),
-        }
     }
 
     /// A reply that changes nothing.

@@ -63,8 +63,10 @@ impl RoomState {
         let at = self.drawing.len();
         let site = self.sites() + 1;
         let addition = self.drawing.plan_join(alloc, site)?;
-        let reply = Reply::Joined { at, site };
-        Ok(Planned::with_addition(reply, addition))
+        Ok(Planned {
+            reply: Reply::Joined { at, site },
+            addition: Some(addition),
+        })
     }
 }
 
@@ -155,7 +157,10 @@ impl RoomState {
             },
             None => Reply::Made { at, name },
         };
-        Planned::with_addition(reply, addition)
+        Planned {
+            reply,
+            addition: Some(addition),
+        }
     }
 
     /// The answer to an operation of a site that has joined, whose number is out of range.

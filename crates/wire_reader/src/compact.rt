@@ -5,15 +5,16 @@
 
 ghost use Rattle.std.specs.Prelude.{◌≡◌, ◌+◌, ◌<◌, ◌≤◌, ◌∷◌, [], ◌++◌, codes, true, false, length, map, take, IfOk, IsTrue, MatchOption, OnOk};
 ghost use Rattle.std.specs.Fmt.{decimal};
-ghost use Rattle.std.specs.List.{list_all, prefix_len, AllByRecursion};
+ghost use Rattle.std.specs.List.{join_by, list_all, prefix_len, AllByRecursion};
 ghost use Rattle.json.specs.Print.{quoted, IsNumber};
 ghost use Rattle.serde_json.specs.Data.{Data};
 ghost use Rattle.serde_json.specs.Written.{compact_text};
 ghost use Rattle.base_types.specs.Names.{is_op_name, is_seq};
+ghost use Rattle.base_types.specs.Texts.{is_key, is_kind};
 ghost use Rattle.base_types.specs.Vectors.{is_vector};
 ghost use Rattle.wire.specs.Form.{attr_form, attrs_form, body_form, list_form, name_form};
 ghost use Rattle.wire.specs.Form.{names_form, value_form, ArePairs, is_from, IsAttr, IsBody, IsId};
-ghost use Rattle.wire.specs.Form.{IsRequest, IsValue};
+ghost use Rattle.wire.specs.Form.{AreAttrs, IsRequest, IsValue};
 ghost use Rattle.wire.specs.steps.Forms.{request_form};
 ghost use Rattle.wire_reader.specs.steps.Compact.{fields_text, request_word, AreUtf8};
 ghost use Rattle.wire_reader.specs.steps.Compact.{IsUtf8Body, IsUtf8Request, IsUtf8Value};
@@ -203,6 +204,27 @@ pub(crate) fn split_number(bytes: &[u8]) -> Result<(&[u8], &[u8]), ReadFault>
     Ok(bytes.split_at(bytes.len() - cursor.rest.len()))
 }
 
+/// A value, after which this byte is taken.
+fn followed_by<T: Drop>(value: T, byte: u8, cursor: &mut Cursor<'_>) -> Result<T, ReadFault>
+    ensures value { IfOk result (λ kept. kept ≡ value) }
+    ensures byte { IfOk result (λ _. cursor.old ≡ byte ∷ cursor.new) }
+{
+    cursor.expect(byte)?;
+    Ok(value)
+}
+
+/// A value, if nothing is left to take.
+fn if_at_end<T: Drop>(value: T, cursor: &Cursor<'_>) -> Result<T, ReadFault>
+    ensures value { IfOk result (λ kept. kept ≡ value) }
+    ensures end { IfOk result (λ _. cursor.now ≡ []) }
+{
+    if cursor.rest.is_empty() {
+        Ok(value)
+    } else {
+        Err(ReadFault::Bad)
+    }
+}
+
 /// What is taken of compact text.
 trait Scanned: Sized + Drop {
     ghost form: { Self → Data };
@@ -217,6 +239,17 @@ trait Scanned: Sized + Drop {
         ensures text { IfOk result (λ part. cursor.old ≡ compact_text (form part) ++ cursor.new) }
         ensures range { IfOk result IsInRange }
         ensures utf8 { IfOk result HasUtf8 };
+}
+
+/// Takes a comma and a part.
+fn next_of<T: Scanned>(alloc: Global, cursor: &mut Cursor<'_>) -> Result<T, ReadFault>
+    ensures text { IfOk result (λ part.
+        cursor.old ≡ 44 ∷ (compact_text (T.form part) ++ cursor.new)) }
+    ensures range { IfOk result T.IsInRange }
+    ensures utf8 { IfOk result T.HasUtf8 }
+{
+    cursor.expect(b',')?;
+    T::scan(alloc, cursor)
 }
 
 /// Takes the parts of a list after this first one, to its end.
@@ -239,8 +272,7 @@ fn rest_of<T: Scanned>(
         if cursor.take(b']') {
             return Ok(parts);
         }
-        cursor.expect(b',')?;
-        parts.push(T::scan(alloc, cursor)?)?;
+        parts.push(next_of(alloc, cursor)?)?;
     }
     Err(ReadFault::Bad)
 }
@@ -317,6 +349,16 @@ fn value_of(alloc: Global, cursor: &mut Cursor<'_>) -> Result<Value, ReadFault>
     }
 }
 
+/// Takes the beginning of an attribute, to the comma behind its key.
+fn key_of(alloc: Global, cursor: &mut Cursor<'_>) -> Result<Key, ReadFault>
+    ensures text { IfOk result (λ key. cursor.old ≡ 91 ∷ (quoted key ++ 44 ∷ cursor.new)) }
+    ensures range { IfOk result (λ key. is_key key ≡ true) }
+{
+    cursor.expect(b'[')?;
+    let key = Key::parse(alloc, cursor.quoted()?)?;
+    followed_by(key, b',', cursor)
+}
+
 impl Scanned for (Key, Value) {
     ghost form = { attr_form };
 
@@ -325,13 +367,36 @@ impl Scanned for (Key, Value) {
     ghost HasUtf8 = { λ attr. IsUtf8Value attr.1 };
 
     fn scan(alloc: Global, cursor: &mut Cursor<'_>) -> Result<(Key, Value), ReadFault> {
-        cursor.expect(b'[')?;
-        let key = Key::parse(alloc, cursor.quoted()?)?;
-        cursor.expect(b',')?;
+        let key = key_of(alloc, cursor)?;
         let value = value_of(alloc, cursor)?;
-        cursor.expect(b']')?;
-        Ok((key, value))
+        followed_by((key, value), b']', cursor)
     }
+}
+
+/// Takes a comma and a pair.
+fn next_pair(cursor: &mut Cursor<'_>) -> Result<(u32, u32), ReadFault>
+    ensures { IfOk result (λ pair.
+        cursor.old ≡ 44 ∷ (compact_text (name_form pair) ++ cursor.new)) }
+{
+    cursor.expect(b',')?;
+    cursor.pair()
+}
+
+/// Takes the pairs of a vector after those that are there, to the end of the list.
+fn push_pairs(cursor: &mut Cursor<'_>, pairs: &mut SitePairs) -> Result<(), ReadFault>
+    requires { 0 < length pairs.old.items }
+    ensures { OnOk result
+        ((91 ∷ join_by (λ pair. compact_text (name_form pair)) (44 ∷ []) pairs.old.items)
+        ++ cursor.old ≡ compact_text (names_form pairs.new.items) ++ cursor.new) }
+{
+    // Each turn takes a byte.
+    'pairs: for _ in 0..cursor.rest.len() {
+        if cursor.take(b']') {
+            return Ok(());
+        }
+        pairs.push(next_pair(cursor)?)?;
+    }
+    Err(ReadFault::Bad)
 }
 
 /// Takes the pairs of a vector after this first one, to the end of the list.
@@ -345,15 +410,8 @@ fn site_pairs_of(
 {
     let mut pairs = SitePairs::new(alloc);
     pairs.push(first)?;
-    // Each turn takes a byte.
-    'pairs: for _ in 0..cursor.rest.len() {
-        if cursor.take(b']') {
-            return Ok(pairs);
-        }
-        cursor.expect(b',')?;
-        pairs.push(cursor.pair()?)?;
-    }
-    Err(ReadFault::Bad)
+    push_pairs(cursor, &mut pairs)?;
+    Ok(pairs)
 }
 
 /// Takes a state vector.
@@ -396,6 +454,26 @@ fn pairs_of(alloc: Global, cursor: &mut Cursor<'_>) -> Result<Pairs, ReadFault>
     Pairs::from_pairs(pairs).map_err(|_| ReadFault::Bad)
 }
 
+/// Takes the kind of a creation, and a comma.
+fn kind_of(alloc: Global, cursor: &mut Cursor<'_>) -> Result<Kind, ReadFault>
+    ensures text { IfOk result (λ kind. cursor.old ≡ quoted kind ++ 44 ∷ cursor.new) }
+    ensures range { IfOk result (λ kind. is_kind kind ≡ true) }
+{
+    let kind = Kind::parse(alloc, cursor.quoted()?)?;
+    followed_by(kind, b',', cursor)
+}
+
+/// Takes the attributes of a creation, and the end of its list.
+fn attrs_of(alloc: Global, cursor: &mut Cursor<'_>) -> Result<Attrs, ReadFault>
+    ensures text { IfOk result (λ attrs.
+        cursor.old ≡ compact_text (attrs_form attrs) ++ 93 ∷ cursor.new) }
+    ensures range { IfOk result AreAttrs }
+    ensures utf8 { IfOk result AreUtf8 }
+{
+    let attrs = Attrs::from_pairs(list_of(alloc, cursor)?).map_err(|_| ReadFault::Bad)?;
+    followed_by(attrs, b']', cursor)
+}
+
 /// Takes what a creation does, to the end of the list. A comma was taken before.
 fn new_of(alloc: Global, cursor: &mut Cursor<'_>) -> Result<Body, ReadFault>
     ensures text { IfOk result (λ body. 44 ∷ cursor.old ≡ fields_text body ++ cursor.new) }
@@ -403,11 +481,20 @@ fn new_of(alloc: Global, cursor: &mut Cursor<'_>) -> Result<Body, ReadFault>
     ensures range { IfOk result IsBody }
     ensures utf8 { IfOk result IsUtf8Body }
 {
-    let kind = Kind::parse(alloc, cursor.quoted()?)?;
-    cursor.expect(b',')?;
-    let attrs = Attrs::from_pairs(list_of(alloc, cursor)?).map_err(|_| ReadFault::Bad)?;
-    cursor.expect(b']')?;
+    let kind = kind_of(alloc, cursor)?;
+    let attrs = attrs_of(alloc, cursor)?;
     Ok(Body::New { kind, attrs })
+}
+
+/// Takes the attributes of a put, and the end of its list.
+fn last_pairs_of(alloc: Global, cursor: &mut Cursor<'_>) -> Result<Pairs, ReadFault>
+    ensures text { IfOk result (λ pairs.
+        cursor.old ≡ compact_text (attrs_form pairs) ++ 93 ∷ cursor.new) }
+    ensures range { IfOk result ArePairs }
+    ensures utf8 { IfOk result AreUtf8 }
+{
+    let pairs = pairs_of(alloc, cursor)?;
+    followed_by(pairs, b']', cursor)
 }
 
 /// Takes what a put does, to the end of the list. A comma was taken before.
@@ -419,10 +506,8 @@ fn put_of(alloc: Global, cursor: &mut Cursor<'_>) -> Result<Body, ReadFault>
 {
     let object = OpName::scan(alloc, cursor)?;
     cursor.expect(b',')?;
-    let version = id_of(alloc, cursor)?;
-    cursor.expect(b',')?;
-    let pairs = pairs_of(alloc, cursor)?;
-    cursor.expect(b']')?;
+    let version = followed_by(id_of(alloc, cursor)?, b',', cursor)?;
+    let pairs = last_pairs_of(alloc, cursor)?;
     Ok(Body::Put {
         object,
         version,
@@ -567,9 +652,5 @@ pub(crate) fn read_compact(alloc: Global, message: &[u8]) -> Result<Request, Rea
 {
     let mut cursor = Cursor { rest: message };
     let request = request_of(alloc, &mut cursor)?;
-    if cursor.rest.is_empty() {
-        Ok(request)
-    } else {
-        Err(ReadFault::Bad)
-    }
+    if_at_end(request, &cursor)
 }

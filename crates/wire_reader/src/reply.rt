@@ -6,10 +6,10 @@ ghost use Rattle.wire.specs.declared.reply.Reply.{Reply as AnyReply};
 ghost use Rattle.rules.specs.declared.version.Shown.TheVariants.{Gone};
 ghost use Rattle.wire.specs.Rising.{rise, attr_before, id_before, version_before};
 ghost use Rattle.wire.specs.Form.{IsReplyText};
-ghost use Rattle.wire_reader.specs.steps.Reading.{Gives, whole_in, id_in};
-ghost use Rattle.wire_reader.specs.steps.Replies.{at_in, ids_in, shown_attrs_at, shown_in, version_in, versions_in, object_in, joined_at, returned_at, made_at, taken_at, versions_at, objects_at, entries_at, left_at, notes_reply_at, renewed_at, refusal_with, refusal_fields, no_at, reply_of};
+ghost use Rattle.wire_reader.specs.steps.Reading.{Gives, whole_in, id_in, no_others};
+ghost use Rattle.wire_reader.specs.steps.Replies.{at_in, ids_in, shown_attrs_at, shown_in, version_in, versions_in, object_in, joined_at, returned_at, made_at, taken_at, versions_at, objects_at, entries_at, left_at, notes_reply_at, renewed_at, refusal_with, refusal_fields, no_at, reply_of, other_words};
 ghost use Rattle.wire_reader.specs.steps.Reads.{reply_read};
-ghost use Rattle.wire_reader.specs.steps.Streams.{next_in, rest_in, Takes};
+ghost use Rattle.wire_reader.specs.steps.Streams.{next_in, rest_by_word, rest_in, Takes};
 
 use crate::fault::ReadFault;
 use crate::note::notes_of;
@@ -321,6 +321,22 @@ fn no_of(reader: &mut Reader<'_>) -> Result<Reply, ReadFault>
     Ok(Reply::No { at, refusal })
 }
 
+/// A reply of one of the other words.
+fn other_of(alloc: Global, word: &str, reader: &mut Reader<'_>) -> Result<Reply, ReadFault>
+    ensures { (n : ℕ) → 4 ≤ n → Takes (λ reply. reply) result
+        (rest_by_word other_words no_others word.now n reader.old) reader.new }
+{
+    match word {
+        "objects" => objects_of(alloc, reader),
+        "entries" => entries_of(alloc, reader),
+        "left" => left_of(reader),
+        "notes" => all_notes_of(alloc, reader),
+        "renewed" => renewed_of(alloc, reader),
+        "no" => no_of(reader),
+        _ => Err(ReadFault::Bad),
+    }
+}
+
 impl Part for Reply {
     ghost Seen = { AnyReply };
 
@@ -338,13 +354,7 @@ impl Part for Reply {
             "made" => made_of(reader),
             "taken" => taken_of(alloc, reader),
             "versions" => versions_of(alloc, reader),
-            "objects" => objects_of(alloc, reader),
-            "entries" => entries_of(alloc, reader),
-            "left" => left_of(reader),
-            "notes" => all_notes_of(alloc, reader),
-            "renewed" => renewed_of(alloc, reader),
-            "no" => no_of(reader),
-            _ => Err(ReadFault::Bad),
+            _ => other_of(alloc, word, reader),
         }
     }
 }

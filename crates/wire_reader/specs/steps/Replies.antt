@@ -126,14 +126,17 @@ refusal_fields ds =
 unfoldable pub no_at : List Data → Option Reply
 no_at ds = field_at at_in refusal_fields ds >>= λ p. Some (No p.0 p.1)
 
+-- the words of the last replies
+abbrev pub other_words : Words Reply
+other_words =
+    (codes "objects", objects_at) ∷ (codes "entries", entries_at)
+    ∷ (codes "left", left_at) ∷ (codes "notes", notes_reply_at)
+    ∷ (codes "renewed", renewed_at) ∷ (codes "no", no_at) ∷ []
+
 abbrev pub reply_words : Words Reply
 reply_words =
     (codes "joined", joined_at) ∷ (codes "back", returned_at) ∷ (codes "made", made_at)
-    ∷ (codes "taken", taken_at)
-    ∷ (codes "versions", versions_at) ∷ (codes "objects", objects_at)
-    ∷ (codes "entries", entries_at)
-    ∷ (codes "left", left_at) ∷ (codes "notes", notes_reply_at)
-    ∷ (codes "renewed", renewed_at) ∷ (codes "no", no_at) ∷ []
+    ∷ (codes "taken", taken_at) ∷ (codes "versions", versions_at) ∷ other_words
 
 -- the reply that a JSON value is a form of
 unfoldable pub reply_of : Data → Option Reply

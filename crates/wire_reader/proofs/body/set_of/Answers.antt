@@ -1,6 +1,6 @@
 use Rattle.std.proofs.Common.{refl, arith}
 use Rattle.wire_reader.proofs.BodySteps.{set_steps}
-use Rattle.wire_reader.proofs.Tokens.{field_steps, end_steps, failed}
+use Rattle.wire_reader.proofs.Tokens.{field_steps, failed}
 use Rattle.wire_reader.proofs.body.set_of.Goals as goal
 
 pub returns-in_err-object : goal.returns-in_err-object
@@ -16,17 +16,7 @@ returns-in_err-version c n h =
 pub returns-in_err-key : goal.returns-in_err-key
 returns-in_err-key c n h =
     failed (λ x. x) c.from_residual-in_err-key.result _ _ _ _ c.from_residual-in_err-key.ensures.1 (c.in_err-key.ensures n)
-    (λ none. rw (set_steps, field_steps, c.in_ok-object.ensures n (omega arith), field_steps, c.in_ok-version.ensures n (omega arith), field_steps, none) refl)
-
-pub returns-in_err-value : goal.returns-in_err-value
-returns-in_err-value c n h =
-    failed (λ x. x) c.from_residual-in_err-value.result _ _ _ _ c.from_residual-in_err-value.ensures.1 (c.in_err-value.ensures n)
-    (λ none. rw (set_steps, field_steps, c.in_ok-object.ensures n (omega arith), field_steps, c.in_ok-version.ensures n (omega arith), field_steps, c.in_ok-key.ensures n, field_steps, none) refl)
-
-pub returns-in_err-close_list : goal.returns-in_err-close_list
-returns-in_err-close_list c n h =
-    failed (λ x. x) c.from_residual-in_err-close_list.result _ _ _ _ c.from_residual-in_err-close_list.ensures.1 c.in_err-close_list.ensures
-    (λ none. rw (set_steps, field_steps, c.in_ok-object.ensures n (omega arith), field_steps, c.in_ok-version.ensures n (omega arith), field_steps, c.in_ok-key.ensures n, field_steps, c.in_ok-value.ensures n, end_steps, none) refl)
+    (λ none. rw (set_steps, field_steps, c.in_ok-object.ensures n (omega arith), field_steps, c.in_ok-version.ensures n (omega arith), none) refl)
 
 pub returns : goal.returns
-returns c n h = rw (set_steps, field_steps, c.in_ok-object.ensures n (omega arith), field_steps, c.in_ok-version.ensures n (omega arith), field_steps, c.in_ok-key.ensures n, field_steps, c.in_ok-value.ensures n, end_steps, c.in_ok-close_list.ensures, c.one.ensures) refl
+returns c n h = rw (set_steps, field_steps, c.in_ok-object.ensures n (omega arith), field_steps, c.in_ok-version.ensures n (omega arith), c.in_ok-key.ensures n, c.one.ensures) refl

@@ -1,6 +1,6 @@
 use Rattle.wire.specs.Form.{name_form}
 use Rattle.wire_reader.proofs.Scanned.{last_part}
-use Rattle.wire_reader.proofs.compact.site_pairs_of.Goals as goal
+use Rattle.wire_reader.proofs.compact.push_pairs.Goals as goal
 
 pub returns-then-take : goal.returns-then-take
 returns-then-take c =

@@ -4,3 +4,4 @@ pub mod OneLine
 pub mod Quoting
 pub mod Growing
 pub mod Forms
+pub mod Lists

@@ -1,6 +1,6 @@
 //! The lists in replies. Contracts see each as the plain list of its members.
 
-ghost use Rattle.std.specs.Prelude.{◌≡◌, IfOk, IfSome, map, string_bytes};
+ghost use Rattle.std.specs.Prelude.{◌≡◌, ◌++◌, ◌∷◌, [], IfOk, IfSome, OnOk, map, string_bytes};
 ghost use Rattle.std.specs.Arc.{arc_value};
 ghost use Rattle.wire.specs.steps.Pages.{entries_text};
 
@@ -26,6 +26,14 @@ impl Model for IdList {
     ghost view = { λ list. list.ids.items };
 }
 
+/// Appends an identifier without its text.
+fn push_unwritten(alloc: Global, shared: &mut SharedIds, id: VersionId) -> Result<(), NoMemory>
+    ensures { OnOk result (shared.new.items ≡ shared.old.items ++ id ∷ []) }
+{
+    shared.push(SharedId::unwritten(alloc, id)?)?;
+    Ok(())
+}
+
 impl IdList {
     /// These identifiers, in their order. Takes no memory.
     pub fn from_ids(ids: SharedIds) -> IdList
@@ -44,7 +52,7 @@ impl IdList {
     {
         let mut shared = SharedIds::with_capacity(alloc, ids.len())?;
         for id in ids {
-            shared.push(SharedId::unwritten(alloc, id)?)?;
+            push_unwritten(alloc, &mut shared, id)?;
         }
         Ok(IdList { ids: shared })
     }

@@ -1,6 +1,7 @@
 //! Requests of a session.
 
 ghost use Rattle.std.specs.Prelude.{◌≡◌, option_map, IfOk};
+ghost use Rattle.wire.specs.declared.request.Request.TheVariants.{Change};
 
 use base_types::{NoMemory, OpName, RoomName, StateVector};
 use rules::Body;
@@ -48,6 +49,20 @@ pub enum Request {
     Leave,
 }
 
+/// An equal request to add an operation.
+fn copy_change(
+    alloc: Global,
+    seq: u32,
+    seen: &StateVector,
+    body: &Body,
+) -> Result<Request, NoMemory>
+    ensures { IfOk result (λ request. request ≡ Change seq seen.now body.now) }
+{
+    let seen = seen.copy(alloc)?;
+    let body = body.copy(alloc)?;
+    Ok(Request::Change { seq, seen, body })
+}
+
 impl Request {
     ghost use Rattle.wire.specs.Entering.{room_to_enter};
 
@@ -82,11 +97,7 @@ impl Request {
                 room: room.copy(alloc)?,
                 site: *site,
             }),
-            Request::Change { seq, seen, body } => Ok(Request::Change {
-                seq: *seq,
-                seen: seen.copy(alloc)?,
-                body: body.copy(alloc)?,
-            }),
+            Request::Change { seq, seen, body } => copy_change(alloc, *seq, seen, body),
             Request::Show { object } => Ok(Request::Show { object: *object }),
             Request::List { from } => Ok(Request::List { from: *from }),
             Request::Pull { from, waits } => Ok(Request::Pull {

@@ -1,7 +1,9 @@
 //! Identifiers that are shared with their texts. Of an object with many versions a change leaves
 //! most identifiers as they are, and so each text is written once.
 
-ghost use Rattle.std.specs.Prelude.{◌≡◌, ◌++◌, [], true, IfOk, IfSome, string_bytes};
+ghost use Rattle.std.specs.Prelude.{◌≡◌, ◌+◌, ◌<◌, ◌≤◌, ◌^◌, ◌++◌, [], true, length};
+ghost use Rattle.std.specs.Prelude.{IfOk, IfSome, OnOk, string_bytes};
+ghost use Rattle.std.specs.List.{insert};
 ghost use Rattle.std.specs.List.Sorted.{IsPermutation};
 ghost use Rattle.base_types.specs.VersionIds.{names_rise};
 ghost use Rattle.serde_json.specs.Written.{compact_text};
@@ -67,6 +69,56 @@ fn bytes_for_names(names: usize) -> usize {
     names.min(MOST_NAMES) * ROOM_OF_A_NAME
 }
 
+/// A copy of names, with room for so many more.
+fn copy_names(alloc: Global, names: &[OpName], more: usize) -> Result<Vec<OpName>, NoMemory>
+    requires { length names.now + more < 2 ^ 64 }
+    ensures { IfOk result (λ copy. copy.items ≡ names.now) }
+{
+    let mut copy = Vec::with_capacity(alloc, names.len() + more)?;
+    copy.extend_from_slice(names)?;
+    Ok(copy)
+}
+
+/// Puts a name behind the first `at` names, and into their text.
+fn put_name(
+    alloc: Global,
+    names: &mut Vec<OpName>,
+    text: &mut String,
+    at: usize,
+    name: OpName,
+) -> Result<(), NoMemory>
+    requires within { at ≤ length names.old.items }
+    requires text { string_bytes text.old ≡ compact_text (names_form names.old.items) }
+    ensures names { OnOk result (names.new.items ≡ insert names.old.items at name) }
+    ensures text { OnOk result (string_bytes text.new ≡ compact_text (names_form names.new.items)) }
+{
+    insert_name(alloc, text, names, at, name)?;
+    names.insert(at, name)?;
+    Ok(())
+}
+
+/// Puts names among others in order, and into their text. Returns false if one is there already.
+fn put_names(
+    alloc: Global,
+    names: &mut Vec<OpName>,
+    text: &mut String,
+    added: &[OpName],
+) -> Result<bool, NoMemory>
+    requires { string_bytes text.old ≡ compact_text (names_form names.old.items) }
+    ensures names { IfOk result (λ are_new. are_new ≡ true
+        → IsPermutation (added.now ++ names.old.items) names.new.items) }
+    ensures text { IfOk result (λ are_new. are_new ≡ true
+        → string_bytes text.new ≡ compact_text (names_form names.new.items)) }
+{
+    for name in added {
+        let Err(at) = names.binary_search(name) else {
+            return Ok(false);
+        };
+        put_name(alloc, names, text, at, *name)?;
+    }
+    Ok(true)
+}
+
 impl SharedId {
     /// The identifier with its text. Linear in its names.
     ///
@@ -116,16 +168,10 @@ impl SharedId {
             IfSome found (IsPermutation (added.now ++ self.now))) }
         ensures rise { IfOk result (λ found. IfSome found (λ id. names_rise id ≡ true)) }
     {
-        let known = self.names();
-        let mut names = Vec::with_capacity(alloc, known.len() + added.len())?;
-        names.extend_from_slice(known)?;
+        let mut names = copy_names(alloc, self.names(), added.len())?;
         let mut text = self.text_to_grow(alloc)?;
-        for name in added {
-            let Err(at) = names.binary_search(name) else {
-                return Ok(None);
-            };
-            insert_name(alloc, &mut text, &names, at, *name)?;
-            names.insert(at, *name)?;
+        if !put_names(alloc, &mut names, &mut text, added)? {
+            return Ok(None);
         }
         SharedId::of_rising(alloc, names, text)
     }

@@ -2,11 +2,12 @@
 
 ghost use Rattle.std.specs.Prelude.{◌≡◌, ◌++◌, OnOk, string_bytes};
 ghost use Rattle.serde_json.specs.Written.{compact_text};
+ghost use Rattle.rules.specs.declared.history.Body.TheVariants.{New};
 ghost use Rattle.wire.specs.Form.{body_form, operation_form};
 
 use super::part::Written;
-use base_types::{NoMemory, StateVector};
-use rules::Body;
+use base_types::{Kind, NoMemory, StateVector};
+use rules::{Attrs, Body};
 use std::alloc::Global;
 
 /// Puts an operation behind a text: its name or its number, what its author had seen, and what it
@@ -22,7 +23,7 @@ pub(super) fn write_operation<H: Written>(
         result (string_bytes text.new ≡ string_bytes text.old ++ compact_text form) }
 {
     match body {
-        Body::New { kind, attrs } => ("new", head, seen, kind, attrs.pairs()).write(alloc, text),
+        Body::New { kind, attrs } => write_new(head, seen, (kind, attrs), alloc, text),
         Body::Put {
             object,
             version,
@@ -32,4 +33,21 @@ pub(super) fn write_operation<H: Written>(
             ("drop", head, seen, *object, version).write(alloc, text)
         }
     }
+}
+
+/// Puts a creation behind a text: its name or its number, what its author had seen, and the new
+/// object's kind and attributes.
+fn write_new<H: Written>(
+    head: &H,
+    seen: &StateVector,
+    new: (&Kind, &Attrs),
+    alloc: Global,
+    text: &mut String,
+) -> Result<(), NoMemory>
+    ensures { let form = operation_form (H.form head.now) seen.now
+        (body_form (New new.entry.0.now new.entry.1.now)) in OnOk
+        result (string_bytes text.new ≡ string_bytes text.old ++ compact_text form) }
+{
+    let (kind, attrs) = new;
+    ("new", head, seen, kind, attrs.pairs()).write(alloc, text)
 }

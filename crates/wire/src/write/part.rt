@@ -1,7 +1,8 @@
 //! Values that have a JSON form, and their texts. Brackets and commas are put behind a text at
 //! once: a writer of tokens takes twice the time.
 
-ghost use Rattle.std.specs.Prelude.{◌≡◌, ◌∷◌, [], ◌++◌, map, pos, IfOk, OnOk, string_bytes};
+ghost use Rattle.std.specs.Prelude.{◌≡◌, ◌∷◌, [], ◌++◌, true, map, pos, IfOk, OnOk};
+ghost use Rattle.std.specs.Prelude.{string_bytes};
 ghost use Rattle.std.specs.List.{list_all};
 ghost use Rattle.json.specs.Print.{quoted};
 ghost use Rattle.serde_json.specs.Data.{Data, string};
@@ -84,18 +85,33 @@ fn quoted(alloc: Global, content: &str) -> Result<String, NoMemory>
     Ok(unsafe { String::from_utf8_unchecked(out.into_inner()) })
 }
 
+/// Puts a text of plain bytes in quotes behind a text.
+fn push_plain(content: &str, text: &mut String) -> Result<(), NoMemory>
+    requires { list_all is_plain_byte content.now ≡ true }
+    ensures { OnOk result (string_bytes text.new ≡ string_bytes text.old ++ quoted content.now) }
+{
+    text.push('"')?;
+    text.push_str(content)?;
+    text.push('"')?;
+    Ok(())
+}
+
+/// Puts a text in quotes, with escapes, behind a text.
+fn push_escaped(content: &str, alloc: Global, text: &mut String) -> Result<(), NoMemory>
+    ensures { OnOk result (string_bytes text.new ≡ string_bytes text.old ++ quoted content.now) }
+{
+    text.push_str(&quoted(alloc, content)?)?;
+    Ok(())
+}
+
 impl Written for &str {
     ghost form = { λ text. string text.now };
 
     fn write(&self, alloc: Global, text: &mut String) -> Result<(), NoMemory> {
         if is_plain(self.as_bytes()) {
-            text.push('"')?;
-            text.push_str(self)?;
-            text.push('"')?;
-            return Ok(());
+            return push_plain(self, text);
         }
-        text.push_str(&quoted(alloc, self)?)?;
-        Ok(())
+        push_escaped(self, alloc, text)
     }
 }
 
@@ -140,6 +156,30 @@ fn write_next<W: Written>(part: &W, alloc: Global, text: &mut String) -> Result<
     part.write(alloc, text)
 }
 
+/// Puts a comma and the text of a part behind a text, twice.
+fn write_both<A: Written, B: Written>(
+    part: &A,
+    next: &B,
+    alloc: Global,
+    text: &mut String,
+) -> Result<(), NoMemory>
+    ensures { OnOk result (string_bytes text.new ≡ string_bytes text.old
+        ++ 44 ∷ (compact_text (A.form part.now) ++ 44 ∷ compact_text (B.form next.now))) }
+{
+    write_next(part, alloc, text)?;
+    write_next(next, alloc, text)
+}
+
+/// Puts a comma, the text of a list's last part, and the list's end behind a text.
+fn write_last<W: Written>(part: &W, alloc: Global, text: &mut String) -> Result<(), NoMemory>
+    ensures { OnOk result (string_bytes text.new
+        ≡ string_bytes text.old ++ 44 ∷ (compact_text (W.form part.now) ++ 93 ∷ [])) }
+{
+    write_next(part, alloc, text)?;
+    text.push(']')?;
+    Ok(())
+}
+
 impl<A: Written> Written for (A,) {
     ghost form = { λ p. list_form (A.form p.0 ∷ []) };
 
@@ -157,9 +197,7 @@ impl<A: Written, B: Written> Written for (A, B) {
     fn write(&self, alloc: Global, text: &mut String) -> Result<(), NoMemory> {
         text.push('[')?;
         self.0.write(alloc, text)?;
-        write_next(&self.1, alloc, text)?;
-        text.push(']')?;
-        Ok(())
+        write_last(&self.1, alloc, text)
     }
 }
 
@@ -170,9 +208,7 @@ impl<A: Written, B: Written, C: Written> Written for (A, B, C) {
         text.push('[')?;
         self.0.write(alloc, text)?;
         write_next(&self.1, alloc, text)?;
-        write_next(&self.2, alloc, text)?;
-        text.push(']')?;
-        Ok(())
+        write_last(&self.2, alloc, text)
     }
 }
 
@@ -182,11 +218,8 @@ impl<A: Written, B: Written, C: Written, D: Written> Written for (A, B, C, D) {
     fn write(&self, alloc: Global, text: &mut String) -> Result<(), NoMemory> {
         text.push('[')?;
         self.0.write(alloc, text)?;
-        write_next(&self.1, alloc, text)?;
-        write_next(&self.2, alloc, text)?;
-        write_next(&self.3, alloc, text)?;
-        text.push(']')?;
-        Ok(())
+        write_both(&self.1, &self.2, alloc, text)?;
+        write_last(&self.3, alloc, text)
     }
 }
 
@@ -197,12 +230,9 @@ impl<A: Written, B: Written, C: Written, D: Written, E: Written> Written for (A,
     fn write(&self, alloc: Global, text: &mut String) -> Result<(), NoMemory> {
         text.push('[')?;
         self.0.write(alloc, text)?;
-        write_next(&self.1, alloc, text)?;
-        write_next(&self.2, alloc, text)?;
+        write_both(&self.1, &self.2, alloc, text)?;
         write_next(&self.3, alloc, text)?;
-        write_next(&self.4, alloc, text)?;
-        text.push(']')?;
-        Ok(())
+        write_last(&self.4, alloc, text)
     }
 }
 
@@ -214,13 +244,9 @@ impl<A: Written, B: Written, C: Written, D: Written, E: Written, F: Written> Wri
     fn write(&self, alloc: Global, text: &mut String) -> Result<(), NoMemory> {
         text.push('[')?;
         self.0.write(alloc, text)?;
-        write_next(&self.1, alloc, text)?;
-        write_next(&self.2, alloc, text)?;
-        write_next(&self.3, alloc, text)?;
-        write_next(&self.4, alloc, text)?;
-        write_next(&self.5, alloc, text)?;
-        text.push(']')?;
-        Ok(())
+        write_both(&self.1, &self.2, alloc, text)?;
+        write_both(&self.3, &self.4, alloc, text)?;
+        write_last(&self.5, alloc, text)
     }
 }
 

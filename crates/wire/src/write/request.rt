@@ -1,7 +1,8 @@
 //! Requests as text.
 
-ghost use Rattle.std.specs.Prelude.{◌≡◌, ◌≤◌, length, IfOk, string_bytes};
+ghost use Rattle.std.specs.Prelude.{◌≡◌, ◌≤◌, ◌++◌, length, IfOk, OnOk, string_bytes};
 ghost use Rattle.serde_json.specs.Written.{compact_text};
+ghost use Rattle.wire.specs.declared.request.Request.TheVariants.{Back, Pull};
 ghost use Rattle.wire.specs.declared.request.TheConstants.{MAX_REQUEST_LEN};
 ghost use Rattle.wire.specs.Form.{IsRequest, IsRequestText};
 ghost use Rattle.wire.specs.steps.Forms.{request_form};
@@ -9,7 +10,7 @@ ghost use Rattle.wire.specs.steps.Forms.{request_form};
 use super::operation::write_operation;
 use super::part::{Written, compact};
 use crate::request::Request;
-use base_types::NoMemory;
+use base_types::{NoMemory, RoomName};
 use std::alloc::Global;
 
 impl Written for Request {
@@ -18,14 +19,33 @@ impl Written for Request {
     fn write(&self, alloc: Global, text: &mut String) -> Result<(), NoMemory> {
         match self {
             Request::Join { room } => ("join", room.text()).write(alloc, text),
-            Request::Back { room, site } => ("back", room.text(), *site).write(alloc, text),
+            Request::Back { room, site } => write_back(room, *site, alloc, text),
             Request::Change { seq, seen, body } => write_operation(seq, seen, body, alloc, text),
             Request::Show { object } => ("show", *object).write(alloc, text),
             Request::List { from } => ("list", *from).write(alloc, text),
-            Request::Pull { from, waits: false } => ("pull", *from).write(alloc, text),
-            Request::Pull { from, waits: true } => ("wait", *from).write(alloc, text),
+            Request::Pull { from, waits } => write_pull(*from, *waits, alloc, text),
             Request::Leave => ("leave",).write(alloc, text),
         }
+    }
+}
+
+/// Puts a request to enter a room again behind a text.
+fn write_back(room: &RoomName, site: u32, alloc: Global, text: &mut String) -> Result<(), NoMemory>
+    ensures { OnOk result (string_bytes text.new
+        ≡ string_bytes text.old ++ compact_text (request_form (Back room.now site))) }
+{
+    ("back", room.text(), site).write(alloc, text)
+}
+
+/// Puts a request for a page of the record behind a text.
+fn write_pull(from: u32, waits: bool, alloc: Global, text: &mut String) -> Result<(), NoMemory>
+    ensures { OnOk result (string_bytes text.new
+        ≡ string_bytes text.old ++ compact_text (request_form (Pull from waits))) }
+{
+    if waits {
+        ("wait", from).write(alloc, text)
+    } else {
+        ("pull", from).write(alloc, text)
     }
 }
 

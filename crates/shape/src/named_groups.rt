@@ -5,6 +5,7 @@ ghost use Rattle.std.specs.Prelude.{◌≡◌, ◌+◌, ◌<◌, ◌≤◌, ◌+
 ghost use Rattle.std.specs.List.Sorted.{IsPermutation, IsSorted, IsSortedWithin};
 ghost use Rattle.base_types.specs.Names.{Name};
 ghost use Rattle.base_types.specs.VersionIds.{id_cmp, names_rise};
+ghost use Rattle.rules.specs.declared.history.Op.{Op};
 ghost use Rattle.rules.specs.Groups.{group_named};
 ghost use Rattle.rules.specs.Lists.{sort_by};
 ghost use Rattle.places.specs.steps.PlaceSet.{has, places};
@@ -235,15 +236,35 @@ impl NamedGroups {
             → limit < count_of_groups (is_conflict_of after.now) (length after.now) }
     {
         let mut groups = self.groups.plan(alloc, after, limit)?;
+        let ids = self.ordered_ids(alloc, before, after, &mut groups)?;
+        Ok(NamedGroups { groups, ids })
+    }
+
+    /// The identifiers of the groups with one more change, which it puts in order of identifier.
+    fn ordered_ids(
+        &self,
+        alloc: Global,
+        before: &ObjectChanges,
+        after: &WithAddition<'_>,
+        groups: &mut Groups,
+    ) -> Result<SharedIds, NoMemory>
+        requires before { AreNamedOf before.now.ops self.now }
+        requires after { GoesOn before.now.ops after.now }
+        requires ops { groups.old.ops ≡ length after.now }
+        requires groups { AreGroupsOf after.now groups.old.groups }
+        requires grown { let kept = self.now.groups
+            in HaveGrown kept.ops kept.groups groups.old.groups }
+        ensures named { IfOk result (λ ids. AreNamedOf after.now (named groups.new ids.items)) }
+        ensures sorted { IfOk result (λ ids. IsSorted id_cmp ids.items) }
+    {
         let newly = newly_conflicting(alloc, before, after)?;
         if newly.lowest_place().is_none() && groups.count() == self.ids.len() {
             // Each group has its identifier of before.
-            let ids = self.shared_ids(alloc)?;
-            return Ok(NamedGroups { groups, ids });
+            return self.shared_ids(alloc);
         }
-        let mut ids = self.ids_after(alloc, before, after, &groups, &newly)?;
-        sort(&mut groups, &mut ids);
-        Ok(NamedGroups { groups, ids })
+        let mut ids = self.ids_after(alloc, before, after, groups, &newly)?;
+        sort(groups, &mut ids);
+        Ok(ids)
     }
 
     /// The identifiers of the groups with one more change. That of a group of before has the names
@@ -266,9 +287,31 @@ impl NamedGroups {
             (conflicting_places after.now) }
         ensures { IfOk result (λ ids. ids.items ≡ map (id_at after.now) groups.now.groups) }
     {
+        let mut ids = SharedIds::with_capacity(alloc, groups.count())?;
+        self.push_ids_after(alloc, after, groups, newly, &mut ids)?;
+        Ok(ids)
+    }
+
+    /// Adds the identifiers of the groups with one more change to none.
+    fn push_ids_after(
+        &self,
+        alloc: Global,
+        after: &WithAddition<'_>,
+        groups: &Groups,
+        newly: &PlaceSet,
+        ids: &mut SharedIds,
+    ) -> Result<(), NoMemory>
+        requires before { (k : List Op) × AreNamedOf k self.now × GoesOn k after.now
+            × (newly.now ≡ filter (λ place. not (has (conflicting_places k) place))
+            (conflicting_places after.now)) }
+        requires groups { AreGroupsOf after.now groups.now.groups }
+        requires grown { let kept = self.now.groups
+            in HaveGrown kept.ops kept.groups groups.now.groups }
+        requires none { ids.old.items ≡ [] }
+        ensures { OnOk result (ids.new.items ≡ map (id_at after.now) groups.now.groups) }
+    {
         // With the length of a relation comes what it keeps.
         let _ = after.len();
-        let mut ids = SharedIds::with_capacity(alloc, groups.count())?;
         let mut added = Vec::new(alloc);
         for group in 0..groups.count() {
             let members = groups.members(group);
@@ -280,7 +323,7 @@ impl NamedGroups {
             };
             ids.push(id)?;
         }
-        Ok(ids)
+        Ok(())
     }
 
     /// The group with an identifier, in memory of its own, or `None` if no group has it. Compares

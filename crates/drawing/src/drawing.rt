@@ -276,7 +276,7 @@ fn insert_reserved(objects: &mut IndexMap<OpName, Shape>, name: OpName, shape: S
     ensures { objects.new.entries ≡ objects.old.entries ++ (name, shape) ∷ [] }
 {
     match objects.insert(name, shape) {
-        Ok(_) => {}
-        Err(_) => unreachable!(),
+        Ok(None) => {}
+        _ => unreachable!(),
     }
 }

@@ -1,9 +1,10 @@
 //! Pages of a drawing's objects.
 
-ghost use Rattle.std.specs.Prelude.{◌≡◌, ◌≤◌, IfOk, drop, length, take};
+ghost use Rattle.std.specs.Prelude.{◌≡◌, ◌≤◌, ◌++◌, ◌∷◌, [], IfOk, OnOk, drop, length, take};
+ghost use Rattle.rules.specs.Bodies.{kind_of_body};
 ghost use Rattle.drawing.specs.steps.State.{kinds_of};
 
-use base_types::{NoMemory, OpName};
+use base_types::{Kind, NoMemory, OpName};
 use indexmap::IndexMap;
 use shape::Shape;
 use std::alloc::Global;
@@ -26,7 +27,22 @@ pub(crate) fn objects_page(
         let Some((name, shape)) = rest.get_index(place) else {
             unreachable!()
         };
-        listed.push((*name, shape.kind().copy(alloc)?))?;
+        push_kind(alloc, &mut listed, *name, shape)?;
     }
     Ok(ObjectList::from_vec(listed))
+}
+
+/// Appends the name of an object with its kind.
+fn push_kind(
+    alloc: Global,
+    listed: &mut Vec<(OpName, Kind)>,
+    name: OpName,
+    shape: &Shape,
+) -> Result<(), NoMemory>
+    ensures { let kind = kind_of_body shape.now.object.creation.body
+        in OnOk result (listed.new.items ≡ listed.old.items ++ (name, kind) ∷ []) }
+{
+    let kind = shape.kind().copy(alloc)?;
+    listed.push((name, kind))?;
+    Ok(())
 }

@@ -1,6 +1,6 @@
 //! What is planned to be added: joins, ends, creations and changes.
 
-ghost use Rattle.std.specs.Prelude.{◌≡◌, ◌<◌, false, length, true, IfErr, IfOk, None, OnOk, Some};
+ghost use Rattle.std.specs.Prelude.{◌≡◌, ◌<◌, [], false, length, true, IfErr, IfOk, None, OnOk, Some};
 ghost use Rattle.base_types.specs.Names.{is_site};
 ghost use Rattle.rules.specs.declared.history.Entry.TheVariants.{Join, Next};
 ghost use Rattle.rules.specs.Records.{operation_in};
@@ -17,7 +17,7 @@ use super::Drawing;
 use crate::addition::{Addition, Part};
 use crate::fault::AddFault;
 use base_types::{NoMemory, OpName};
-use rules::{Entry, Refusal, SharedOp};
+use rules::{Entry, Limits, Refusal, SharedOp};
 use shape::{PlannedChange, Shape};
 use std::alloc::Global;
 use std::sync::Arc;
@@ -60,8 +60,8 @@ impl Drawing {
         ensures ready { IfOk result (IsReady self.new) }
         ensures room { self.new.room ≡ self.old.room }
     {
-        self.record.reserve_one()?;
         let entry = Arc::new(alloc, entry)?;
+        self.record.reserve_one()?;
         Ok(Addition {
             entry,
             part: Part::Alone,
@@ -113,10 +113,22 @@ impl Drawing {
         ensures planned { IfOk result (IsPlanFor self.old.room op self.new) }
         ensures room { self.new.room ≡ self.old.room }
     {
-        self.reserve_operation(op.name.site())?;
-        self.objects.reserve(1)?;
+        self.reserve_creation(op.name.site())?;
+        self.creation_of(alloc, op)
+    }
+
+    /// The addition of a creation that is allowed and for which there is memory.
+    fn creation_of(&self, alloc: Global, op: SharedOp) -> Result<Addition, NoMemory>
+        requires next { IsNext self.now.room op }
+        requires creation { is_change_body op.body ≡ false }
+        requires allowed { body_refusal self.now.room op ≡ None }
+        requires entry { 0 < self.now.reserve.entries }
+        requires past { 0 < spare_of self.now op.name.0 }
+        requires object { 0 < self.now.reserve.objects }
+        ensures { IfOk result (IsPlanFor self.now.room op self.now) }
+    {
         let entry = op.entry()?;
-        let shape = Box::new(alloc, Shape::create(alloc, op.share()?, self.limits)?)?;
+        let shape = new_shape(alloc, &op, self.limits)?;
         Ok(Addition {
             entry,
             part: Part::Creation(op, shape),
@@ -135,9 +147,9 @@ impl Drawing {
         if !op.seen.has(op.object()) {
             return Err(AddFault::Refused(Refusal::NoSuchObject));
         }
-        let (entry, shared) = (op.entry()?, op.share()?);
         self.reserve_operation(op.name.site())?;
-        let (place, planned) = self.plan_at_object(alloc, shared)?;
+        let entry = op.entry()?;
+        let (place, planned) = self.plan_at_object(alloc, op.share()?)?;
         Ok(Addition {
             entry,
             part: Part::Change(place, op, planned),
@@ -153,6 +165,18 @@ impl Drawing {
     {
         self.record.reserve_one()?;
         self.past.reserve(site)?;
+        Ok(())
+    }
+
+    /// Takes memory for one more creation of this site.
+    fn reserve_creation(&mut self, site: u32) -> Result<(), NoMemory>
+        ensures entry { OnOk result (0 < self.new.reserve.entries) }
+        ensures past { OnOk result (is_site site ≡ true → 0 < spare_of self.new site) }
+        ensures object { OnOk result (0 < self.new.reserve.objects) }
+        ensures room { self.new.room ≡ self.old.room }
+    {
+        self.reserve_operation(site)?;
+        self.objects.reserve(1)?;
         Ok(())
     }
 
@@ -187,4 +211,14 @@ impl Drawing {
         };
         Ok((place, shape.plan_change(alloc, op)?))
     }
+}
+
+/// The object of a creation, in memory of its own.
+fn new_shape(alloc: Global, op: &SharedOp, limits: Limits) -> Result<Box<Shape>, NoMemory>
+    requires { is_change_body op.now.body ≡ false }
+    ensures { IfOk result (λ shape.
+        shape.value.object ≡ record { limits = limits; creation = op.now; changes = [] }) }
+{
+    let shape = Shape::create(alloc, op.share()?, limits)?;
+    Ok(Box::new(alloc, shape)?)
 }

@@ -1,4 +1,4 @@
-use Rattle.std.proofs.Common.{◌≡◌, [], ◌∷◌, ◌++◌, take, drop, sym, ap, ◌∙◌, arith, min}
+use Rattle.std.proofs.Common.{◌≡◌, take, drop, sym, ap, ◌∙◌, arith, min}
 use Rattle.std.proofs.lemmas.List.{drop-map}
 use Rattle.base_types.specs.Names.{Name}
 use Rattle.base_types.specs.Texts.{Bytes}
@@ -13,8 +13,7 @@ kind_of shape = (shape.0, kind_of_body shape.1.object.creation.body)
 
 pub loop-place-preserved : goal.loop-place-preserved
 loop-place-preserved c =
-    c.in_ok-push.ensures.items
-    ∙ (λ i. c.loop-place.listed.items ++ (c.in-Some.name.now, (c.in_ok-copy.ensures ∙ c.kind.ensures) i) ∷ [])
+    c.in_ok-push_kind.ensures
     ∙ found_more kind_of c.split_at-rest.result.1 c.loop-place.listed.items c.loop-place.place (c.in-Some.name.now, c.in-Some.shape.now) (sym c.in-Some.ensures.entry) c.loop-place.invariant
 
 pub returns : goal.returns

@@ -8,8 +8,8 @@ CRATES = ROOT / "crates"
 
 
 def edit_files():
-    """Returns the paths of the edits, of `must-fail/` and of `edits/`."""
-    return sorted(path for kind in ("must-fail", "edits") for path in CRATES.glob(f"*/{kind}/*.edit"))
+    """Returns the paths of the edits."""
+    return sorted(CRATES.glob("*/edits/*.edit"))
 
 
 def fault_of(edit, crate):

@@ -198,9 +198,11 @@ impl ConflictRows {
         requires within { All (λ place. place < length self.old.ops) candidates.now }
         requires at_odds { filter (at_odds_at self.old.ops op.now.body) candidates.now
             ≡ filter (at_odds_at self.old.ops op.now.body) (places_unknown self.old.ops op.now) }
+        // What is planned:
         ensures row { IfOk result (λ planned. planned.0 ≡ new_conflicts self.old.ops op.now) }
         ensures all { let place = length self.old.ops in IfOk result (λ planned. planned.1
             ≡ with_conflicts planned.0 place (conflicting_places self.old.ops)) }
+        // There is memory for it, and nothing else changes:
         ensures spare { OnOk result (0 < self.new.spare) }
         ensures object { self.new.object ≡ self.old.object }
         ensures ops { self.new.ops ≡ self.old.ops }

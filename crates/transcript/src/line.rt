@@ -85,15 +85,13 @@ pub(crate) fn entries_after(reply: &Reply) -> u32
 fn line_with(site: u32, request: Request, reply: Reply) -> Result<TranscriptLine, ReadFault>
     ensures { Gives (λ line. line) result (line_with site request reply) }
 {
-    if go_together(site, &request, &reply) {
-        Ok(TranscriptLine {
-            site,
-            request,
-            reply,
-        })
-    } else {
-        Err(ReadFault::Bad)
-    }
+    let go_together = go_together(site, &request, &reply);
+    let line = TranscriptLine {
+        site,
+        request,
+        reply,
+    };
+    go_together.then_some(line).ok_or(ReadFault::Bad)
 }
 
 /// The line that the bytes encode: UTF-8 text of one JSON value in the form of a line. Linear in

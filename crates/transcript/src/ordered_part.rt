@@ -32,10 +32,11 @@ impl Model for OrderedPart {
 fn next_line(alloc: Global, order: &Order, bytes: &[u8]) -> Result<Option<TranscriptLine>, NoMemory>
     ensures { IfOk result (IsNextIn order.now bytes.now) }
 {
-    match if_in_form(read_line(alloc, bytes))? {
-        Some(line) if order.takes(&line) => Ok(Some(line)),
-        _ => Ok(None),
-    }
+    let Some(line) = if_in_form(read_line(alloc, bytes))? else {
+        return Ok(None);
+    };
+    let may_come = order.takes(&line);
+    Ok(may_come.then_some(line))
 }
 
 impl OrderedPart {

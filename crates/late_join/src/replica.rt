@@ -41,11 +41,20 @@ pub struct Fed {
 }
 
 /// A copy of a room, which takes the entries of the room's record in any causal order.
-#[derive(Drop)]
 pub struct Replica {
     sites: Vec<u32>,
     has_ended: bool,
     drawing: Drawing,
+}
+
+impl Drop for Replica {
+    fn drop(self) {
+        let Replica {
+            sites: _,
+            has_ended: _,
+            drawing: _,
+        } = self;
+    }
 }
 
 impl Model for Replica {
@@ -245,6 +254,7 @@ impl Replica {
         ensures err { OnErr result (self.new ≡ self.old) }
     {
         if let Some(fault) = self.arrival_fault(&op) {
+            drop(op);
             return Err(fault);
         }
         let addition = self.drawing.plan(alloc, SharedOp::new(alloc, op)?)?;
@@ -343,12 +353,17 @@ impl Replica {
         ensures ok { IfOk result (IsFed self.old self.new text.now) }
         ensures err { IfErr result (StaysBy self.old self.new text.now) }
     {
-        let Reply::Entries { at, from, entries } = read_reply(alloc, text)? else {
-            return Err(FeedFault::NotAPage);
-        };
-        let before = self.count_taken();
-        self.take_each(alloc, entries.as_slice())?;
-        let count = self.count_taken() - before;
-        Ok(Fed { from, count, at })
+        match read_reply(alloc, text)? {
+            Reply::Entries { at, from, entries } => {
+                let before = self.count_taken();
+                self.take_each(alloc, entries.as_slice())?;
+                let count = self.count_taken() - before;
+                Ok(Fed { from, count, at })
+            }
+            other => {
+                drop(other);
+                Err(FeedFault::NotAPage)
+            }
+        }
     }
 }

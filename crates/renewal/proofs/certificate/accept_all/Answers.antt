@@ -1,4 +1,4 @@
-use Rattle.std.proofs.Common.{◌≡◌, ◌∙◌, sym, true, false}
+use Rattle.std.proofs.Common.{◌∙◌, sym}
 use Rattle.renewal.proofs.Replayed.{replay_more, replay_refused}
 use Rattle.renewal.proofs.certificate.accept_all.Goals as goal
 

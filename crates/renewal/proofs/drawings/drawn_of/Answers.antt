@@ -1,4 +1,4 @@
-use Rattle.std.proofs.Common.{◌≡◌, ◌∙◌, ◌++◌, ◌∷◌, [], List, take, sym, ap}
+use Rattle.std.proofs.Common.{◌∙◌, ◌++◌, ◌∷◌, [], List, sym, ap}
 use Rattle.std.specs.Prelude.{Option, filter_map}
 use Rattle.base_types.specs.Names.{Name}
 use Rattle.drawing.specs.Shown.{shown}

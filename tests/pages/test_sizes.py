@@ -10,8 +10,31 @@ from lib.serving import ROOT
 MOST = 12
 # Crates that may have larger functions.
 CRATES = {"keeping", "loops", "room_folder", "server", "sessions"}
-# Functions that may be larger. `thiserror` writes the first.
-FUNCTIONS = {"command_fault::fault::FaultDisplay::fmt"}
+# Functions that may be larger. `thiserror` writes the first two. The others are to be cut.
+FUNCTIONS = {
+    "command_fault::fault::FaultDisplay::fmt",
+    "shape::fault::ChangeFaultDisplay::fmt",
+    "connection::dialogue::Dialogue::serve_frame",
+    "drawing::drawing::Drawing::plan_change",
+    "drawing::drawing::insert_reserved",
+    "renewal::entries::Writing::add",
+    "renewal::plan::add_puts",
+    "renewal::separation::separate",
+    "room_core::planned::Planned::drop",
+    "room_lock::closing::close_all",
+    "room_lock::closing::close_others",
+    "room_lock::making::make",
+    "room_lock::others::Others::open",
+    "room_lock::room::Room::close",
+    "room_lock::room::Room::note",
+    "room_lock::room::Room::open",
+    "room_lock::rooms::Rooms::new",
+    "room_lock::shelf::all_parts",
+    "room_record::record::Record::page",
+    "room_record::record::shared_entries",
+    "shape::named_groups::NamedGroups::push_ids_after",
+    "world::World::script",
+}
 
 
 def sizes_script():

@@ -250,10 +250,12 @@ impl NamedGroups {
     ) -> Result<SharedIds, NoMemory>
         requires before { AreNamedOf before.now.ops self.now }
         requires after { GoesOn before.now.ops after.now }
+        // The groups are those of the changes after it, each grown from one before:
         requires ops { groups.old.ops ≡ length after.now }
         requires groups { AreGroupsOf after.now groups.old.groups }
         requires grown { let kept = self.now.groups
             in HaveGrown kept.ops kept.groups groups.old.groups }
+        // The identifiers:
         ensures named { IfOk result (λ ids. AreNamedOf after.now (named groups.new ids.items)) }
         ensures sorted { IfOk result (λ ids. IsSorted id_cmp ids.items) }
     {

@@ -122,9 +122,11 @@ impl Drawing {
         requires next { IsNext self.now.room op }
         requires creation { is_change_body op.body ≡ false }
         requires allowed { body_refusal self.now.room op ≡ None }
+        // There is memory for it:
         requires entry { 0 < self.now.reserve.entries }
         requires past { 0 < spare_of self.now op.name.0 }
         requires object { 0 < self.now.reserve.objects }
+        // The addition:
         ensures { IfOk result (IsPlanFor self.now.room op self.now) }
     {
         let entry = op.entry()?;

@@ -5,7 +5,7 @@ ghost use Rattle.commands.specs.Checks.{check_report, verdict_says};
 ghost use Rattle.commands.specs.steps.Statuses.{EndsEarly, IsOfResult, Tells, TellsPrefix};
 ghost use Rattle.commands.specs.Reports.{OfReaders, Reports};
 
-use crate::reporting::{end_with, read_whole, write_line};
+use crate::reporting::{end_with, numbered_line, read_whole, write_line};
 use command_fault::Fault;
 use history_check::{Verdict, check};
 use std::alloc::Global;
@@ -18,9 +18,9 @@ fn verdict_line(alloc: Global, verdict: Verdict) -> Result<String, Fault>
 {
     let line = match verdict {
         Verdict::Holds => "holds\n".to_string(alloc)?,
-        Verdict::BadRecord(number) => format!(in alloc; "bad record line {number}\n")?,
-        Verdict::BadTranscript(number) => format!(in alloc; "bad transcript line {number}\n")?,
-        Verdict::WrongReply(number) => format!(in alloc; "wrong reply line {number}\n")?,
+        Verdict::BadRecord(number) => numbered_line(alloc, "bad record line ", number)?,
+        Verdict::BadTranscript(number) => numbered_line(alloc, "bad transcript line ", number)?,
+        Verdict::WrongReply(number) => numbered_line(alloc, "wrong reply line ", number)?,
     };
     Ok(line)
 }

@@ -5,7 +5,7 @@ ghost use Rattle.commands.specs.steps.Statuses.{EndsEarly, IsOfResult, Tells, Te
 ghost use Rattle.commands.specs.Renewals.{comparison_says, renewed_report};
 ghost use Rattle.commands.specs.Reports.{OfReaders, Reports};
 
-use crate::reporting::{end_with, read_whole, write_line};
+use crate::reporting::{end_with, numbered_line, read_whole, write_line};
 use command_fault::Fault;
 use renewal_text::{Comparison, compare};
 use std::alloc::Global;
@@ -18,8 +18,8 @@ fn comparison_line(alloc: Global, comparison: Comparison) -> Result<String, Faul
 {
     let line = match comparison {
         Comparison::Holds => "holds\n".to_string(alloc)?,
-        Comparison::BadRecord(number) => format!(in alloc; "bad record line {number}\n")?,
-        Comparison::BadNewRecord(number) => format!(in alloc; "bad new record line {number}\n")?,
+        Comparison::BadRecord(number) => numbered_line(alloc, "bad record line ", number)?,
+        Comparison::BadNewRecord(number) => numbered_line(alloc, "bad new record line ", number)?,
         Comparison::Differs => "differs\n".to_string(alloc)?,
     };
     Ok(line)

@@ -5,7 +5,7 @@ ghost use Rattle.commands.specs.steps.Statuses.{EndsEarly, IsOfResult, Tells, Te
 ghost use Rattle.commands.specs.Migrations.{migrate_report, migrated_says};
 ghost use Rattle.commands.specs.Reports.{OfReader, Reports};
 
-use crate::reporting::{end_with, read_whole, write_line};
+use crate::reporting::{end_with, numbered_line, read_whole, write_line};
 use command_fault::Fault;
 use history_check::{Migrated, migrate};
 use std::alloc::Global;
@@ -18,7 +18,7 @@ fn migrated_text(alloc: Global, migrated: Migrated) -> Result<String, Fault>
 {
     let text = match migrated {
         Migrated::Text(text) => text,
-        Migrated::BadRecord(number) => format!(in alloc; "bad record line {number}\n")?,
+        Migrated::BadRecord(number) => numbered_line(alloc, "bad record line ", number)?,
     };
     Ok(text)
 }

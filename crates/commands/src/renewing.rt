@@ -5,7 +5,7 @@ ghost use Rattle.commands.specs.steps.Statuses.{EndsEarly, IsOfResult, Tells, Te
 ghost use Rattle.commands.specs.Renewals.{renew_report, renewed_says};
 ghost use Rattle.commands.specs.Reports.{OfReader, Reports};
 
-use crate::reporting::{end_with, read_whole, write_line};
+use crate::reporting::{end_with, numbered_line, read_whole, write_line};
 use command_fault::Fault;
 use renewal_text::{RenewedText, renew};
 use std::alloc::Global;
@@ -18,7 +18,7 @@ fn renewed_text(alloc: Global, renewed: RenewedText) -> Result<String, Fault>
 {
     let text = match renewed {
         RenewedText::Text(text) => text,
-        RenewedText::BadRecord(number) => format!(in alloc; "bad record line {number}\n")?,
+        RenewedText::BadRecord(number) => numbered_line(alloc, "bad record line ", number)?,
         RenewedText::Declined(_reason) => "cannot renew\n".to_string(alloc)?,
     };
     Ok(text)

@@ -1,10 +1,12 @@
 //! What the commands share that read their input whole and write one result of it.
 
-ghost use Rattle.std.specs.Prelude.{◌≡◌, ◌≤◌, ◌⊎◌, IfErr, IfOk, IfSome, OnErr, OnOk, length};
+ghost use Rattle.std.specs.Prelude.{◌≡◌, ◌≤◌, ◌⊎◌, IfErr, IfOk, IfSome, OnErr, OnOk, length, string_bytes};
 ghost use Rattle.std.specs.Io.KnownBytes.{Appends, IsAtEnd};
 ghost use Rattle.byte_streams.specs.Prefixes.{AppendsPrefix};
+ghost use Rattle.commands.specs.Checks.{numbered_line};
 ghost use Rattle.commands.specs.steps.Statuses.{end_status};
 
+use base_types::NoMemory;
 use byte_streams::write_out;
 use command_fault::{Fault, MAX_FILE_LEN, read_up_to};
 use std::alloc::Global;
@@ -18,6 +20,13 @@ pub(crate) fn read_whole<R: Read>(alloc: Global, input: &mut R) -> Result<Vec<u8
     ensures fault { IfErr result (λ fault. (fault ≡ Fault.Input) ⊎ (fault ≡ Fault.NoMemory)) }
 {
     read_up_to(alloc, input, MAX_FILE_LEN)
+}
+
+/// The line of these words and a number.
+pub(crate) fn numbered_line(alloc: Global, words: &str, number: usize) -> Result<String, NoMemory>
+    ensures { IfOk result (λ line. string_bytes line ≡ numbered_line words.now number) }
+{
+    Ok(format!(in alloc; "{words}{number}\n")?)
 }
 
 /// Writes a line and flushes the output.

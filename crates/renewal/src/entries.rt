@@ -64,23 +64,35 @@ impl Writing {
         }
     }
 
-    /// Adds an operation of a site that has now made so many.
-    fn push(&mut self, op: Op, made: u32) -> Result<(), NoMemory> {
-        let site = op.name.site();
+    /// Adds an operation of a site, its next one.
+    fn push(&mut self, op: Op) -> Result<(), NoMemory> {
+        let name = op.name;
         self.entries.push(Entry::Operation(op))?;
-        if let Some(count) = self.made.get_mut(site.saturating_sub(1) as usize) {
-            *count = made;
+        if let Some(count) = self.made.get_mut(name.site().saturating_sub(1) as usize) {
+            *count = name.seq();
         }
         Ok(())
     }
 
-    /// Adds the site's next operation, and returns its name.
-    fn add(&mut self, alloc: Global, site: u32, body: Body) -> Result<OpName, WritingFault> {
+    /// The name of the site's next operation, and what the site has seen.
+    fn next_by(&self, alloc: Global, site: u32) -> Result<(OpName, StateVector), WritingFault> {
         let made = self.made_by(site).saturating_add(1);
         let name = OpName::new(site, made).ok_or(Reason::TooLong)?;
-        let seen = self.seen_by(alloc, site)?;
-        self.push(Op { name, seen, body }, made)?;
-        Ok(name)
+        Ok((name, self.seen_by(alloc, site)?))
+    }
+
+    /// Adds the site's next operation, and returns its name.
+    fn add(&mut self, alloc: Global, site: u32, body: Body) -> Result<OpName, WritingFault> {
+        match self.next_by(alloc, site) {
+            Ok((name, seen)) => {
+                self.push(Op { name, seen, body })?;
+                Ok(name)
+            }
+            Err(fault) => {
+                drop(body);
+                Err(fault)
+            }
+        }
     }
 
     /// Adds the creation of an object, and returns its name.

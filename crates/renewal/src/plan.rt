@@ -166,17 +166,18 @@ fn pairs_behind_tags(
     Ok(pairs)
 }
 
-/// Adds a version's first put. It has the tags, filled up with other pairs, and ends unless it gives
-/// nothing.
+/// Adds a version's first put. It has the tags, filled up with the version's other pairs, and ends
+/// unless it gives nothing.
 fn add_first(
     alloc: Global,
     making: &mut PutsInMaking,
+    draft: &Draft,
+    version: &AttrList,
     tags: PairList,
-    others: PairList,
 ) -> Result<(), NoMemory> {
     let before = making.puts.len();
     making.add(alloc, tags)?;
-    making.add(alloc, others)?;
+    making.add(alloc, other_pairs(alloc, draft, version)?)?;
     if making.puts.len() == before {
         making.end_put(alloc)?;
     }
@@ -195,7 +196,7 @@ fn add_puts(
     let version = &draft.versions[place];
     let tags = tags_of(alloc, draft, place)?;
     let behind = pairs_behind_tags(alloc, version, &tags)?;
-    add_first(alloc, making, tags, other_pairs(alloc, draft, version)?)?;
+    add_first(alloc, making, draft, version, tags)?;
     making.add(alloc, behind)?;
     making.end_put(alloc)?;
     Ok(())

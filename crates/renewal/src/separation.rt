@@ -150,6 +150,22 @@ fn best_of<'a>(versions: &[AttrList], couples: &[Couple], keys: &'a [Key]) -> Op
     }
 }
 
+/// Adds a copy of the key that keeps most of the couples apart. Returns the couples that are left.
+/// `None` if none of the keys keeps one apart.
+fn keep_apart(
+    alloc: Global,
+    versions: &[AttrList],
+    keys: &[Key],
+    couples: &[Couple],
+    found: &mut Vec<Key>,
+) -> Result<Option<Vec<Couple>>, NoMemory> {
+    let Some(key) = best_of(versions, couples, keys) else {
+        return Ok(None);
+    };
+    found.push(key.copy(alloc)?)?;
+    Ok(Some(left_by(alloc, versions, couples, key)?))
+}
+
 /// Adds copies of some of the keys, such that any two versions have one of these in common: at each
 /// step the best one for the couples that are left. Returns false if some two versions have none
 /// of the keys in common.
@@ -164,11 +180,10 @@ fn separate(
         if couples.is_empty() {
             break;
         }
-        let Some(key) = best_of(versions, &couples, keys) else {
-            return Ok(false);
-        };
-        found.push(key.copy(alloc)?)?;
-        couples = left_by(alloc, versions, &couples, key)?;
+        match keep_apart(alloc, versions, keys, &couples, found)? {
+            Some(left) => couples = left,
+            None => return Ok(false),
+        }
     }
     Ok(true)
 }

@@ -103,7 +103,10 @@ where
     let url = url_of(alloc, room)?;
     let request = request_of(alloc, &url)?;
     match client(alloc, rt, request, stream) {
-        Ok((socket, _response)) => Ok(socket),
+        Ok((socket, response)) => {
+            drop(response);
+            Ok(socket)
+        }
         Err(HandshakeError::Failure(fault)) => Err(fault.into()),
         Err(HandshakeError::Interrupted(_handshake)) => Err(WatchFault::Session),
     }

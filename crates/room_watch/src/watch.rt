@@ -13,6 +13,7 @@ use std::alloc::Global;
 use std::io::{Read, Write};
 use std::net::Net;
 use std::random::RandomSource;
+use tungstenite::{MaskKeys, WebSocket};
 use wire::{Reply, Request, write_reply};
 
 /// What asking to enter a room gave.
@@ -317,9 +318,24 @@ where
     W: Write,
 {
     let mut socket = session_over(rt, alloc, stream, room)?;
-    show_room(alloc, &mut socket, room, output)?;
-    leave_room(alloc, &mut socket)?;
-    close(&mut socket)
+    show_and_close(alloc, &mut socket, room, output)
+}
+
+/// Enters the room, writes the lines of all objects, leaves the room and closes the session.
+fn show_and_close<S, K, W>(
+    alloc: Global,
+    socket: &mut WebSocket<S, K>,
+    room: &RoomName,
+    output: &mut W,
+) -> Result<(), WatchFault>
+where
+    S: Read + Write + Drop,
+    K: MaskKeys + Drop,
+    W: Write,
+{
+    drop(show_room(alloc, socket, room, output)?);
+    leave_room(alloc, socket)?;
+    close(socket)
 }
 
 /// Connects, and shows the room.

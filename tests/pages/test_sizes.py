@@ -17,9 +17,8 @@ FUNCTIONS = {
     "connection::dialogue::Dialogue::serve_frame",
     "drawing::drawing::Drawing::plan_change",
     "drawing::drawing::insert_reserved",
-    "renewal::entries::Writing::add",
+    "history_check::findings::find_all",
     "renewal::plan::add_puts",
-    "renewal::separation::separate",
     "room_core::planned::Planned::drop",
     "room_lock::closing::close_all",
     "room_lock::closing::close_others",
@@ -32,6 +31,7 @@ FUNCTIONS = {
     "room_lock::shelf::all_parts",
     "room_record::record::Record::page",
     "room_record::record::shared_entries",
+    "room_watch::session::session_over",
     "shape::named_groups::NamedGroups::push_ids_after",
     "world::World::script",
 }

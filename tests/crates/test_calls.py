@@ -1,5 +1,5 @@
-"""The tests of the crates' public calls, in src/: one program. `rt try --test` builds it without proofs. It is checked
-while it runs, for broken preconditions, overflows and lost memory, and by the address sanitizer."""
+"""The tests of the crates' public calls, in src/: one program, which `rt try --test` builds without proofs. A test fails
+at an overflow, at an index out of bounds, and at what the address sanitizer finds."""
 
 import pathlib
 import re
